@@ -1,0 +1,4 @@
+pub mod Node
+pub mod Function
+pub mod Check
+pub mod Small

@@ -1,0 +1,113 @@
+-- Laws of the tests of the numbers below a bound.
+use Prim.Native.Nat.{ℕ, zero, suc, _+_, _<_, _≤_}
+use mathlib.Core.Path.{_≡_, refl, sym, ap, ap₂, subst, _∙_}
+use mathlib.Core.Bool.{Bool, true, false, not, cond}
+use mathlib.Core.Logic.{⊎-elim}
+use mathlib.Core.List.{[], _∷_, List·Memᴰ, List·Memᴰ·head, Memᴰ·append-left, Memᴰ·append-right}
+use native.Mathlib.Nat.{not-suc-le-zero, le-refl, add-zero, zero-add}
+use native.Mathlib.Omega.{arith}
+use lib.Dec.{T, ltb, ltb→lt, nltb→le}
+use Rattle.masks.specs.Numbers.{digit, every, some, count, least, below}
+use Rattle.masks.proofs.Tests.{and-i, and-l, and-r, or-l, or-r, or-cases, is-true, is-false, along, below-suc}
+
+pub every-e : (n : ℕ) (p : ℕ → Bool) → T (every n p) → (i : ℕ) → i < n → T (p i)
+unfolding every
+every-e zero p h i l = absurd (not-suc-le-zero l)
+every-e (suc n) p h i l =
+    ⊎-elim (λ (e : i ≡ n). subst (λ (k : ℕ). T (p k)) (sym e) (and-l (p n) (every n p) h))
+    (λ (k : i < n). every-e n p (and-r (p n) (every n p) h) i k)
+    (below-suc l)
+
+pub every-i : (n : ℕ) (p : ℕ → Bool) → ((i : ℕ) → i < n → T (p i)) → T (every n p)
+unfolding every
+every-i zero p h = tt
+every-i (suc n) p h = and-i (p n) (every n p) (h n (le-refl (suc n))) (every-i n p (λ i l. h i (omega arith)))
+
+pub some-e : (n : ℕ) (p : ℕ → Bool) → T (some n p) → (i : ℕ) × (i < n) × T (p i)
+unfolding some
+some-e zero p h = absurd h
+some-e (suc n) p h =
+    ⊎-elim {C = (i : ℕ) × (i < suc n) × T (p i)} (λ (q : T (p n)). (n, le-refl (suc n), q))
+    (λ (q : T (some n p)). let (i, l, r) = some-e n p q in (i, omega arith, r))
+    (or-cases (p n) (some n p) h)
+
+pub some-i : (n : ℕ) (p : ℕ → Bool) (i : ℕ) → i < n → T (p i) → T (some n p)
+unfolding some
+some-i zero p i l h = absurd (not-suc-le-zero l)
+some-i (suc n) p i l h =
+    ⊎-elim (λ (e : i ≡ n). or-l (p n) (some n p) (subst (λ (k : ℕ). T (p k)) e h))
+    (λ (k : i < n). or-r (p n) (some n p) (some-i n p i k h))
+    (below-suc l)
+
+-- ---- counting
+pub count-ext : (n : ℕ) (p q : ℕ → Bool) → ((i : ℕ) → i < n → p i ≡ q i) → count n p ≡ count n q
+unfolding count
+count-ext zero p q h = refl
+count-ext (suc n) p q h =
+    ap₂ (λ (a : ℕ) (b : Bool). a + digit b) (count-ext n p q (λ i l. h i (omega arith))) (h n (le-refl (suc n)))
+
+digit-mono : (p q : Bool) → (T p → T q) → digit p ≤ digit q
+digit-mono true true h = omega arith
+digit-mono true false h = absurd (h tt)
+digit-mono false q h = omega arith
+
+pub count-mono : (n : ℕ) (p q : ℕ → Bool) → ((i : ℕ) → i < n → T (p i) → T (q i)) → count n p ≤ count n q
+unfolding count
+count-mono zero p q h = omega arith
+count-mono (suc n) p q h =
+    omega (arith, count-mono n p q (λ i l. h i (omega arith)), digit-mono (p n) (q n) (h n (le-refl (suc n))))
+
+-- q passes where p does, and at one number more
+pub count-less : (n : ℕ) (p q : ℕ → Bool) → ((i : ℕ) → i < n → T (p i) → T (q i))
+    → (i : ℕ) → i < n → T (not (p i)) → T (q i) → count n p < count n q
+unfolding count
+count-less zero p q h i l x y = absurd (not-suc-le-zero l)
+count-less (suc n) p q h i l x y =
+    ⊎-elim
+    (λ (e : i ≡ n).
+    let a : digit (p n) ≡ 0 = ap digit (is-false (p n) (subst (λ (k : ℕ). T (not (p k))) e x)) in
+    let b : digit (q n) ≡ 1 = ap digit (is-true (q n) (subst (λ (k : ℕ). T (q k)) e y)) in
+    omega (arith, count-mono n p q (λ i l. h i (omega arith))))
+    (λ (k : i < n).
+    omega (arith, count-less n p q (λ i l. h i (omega arith)) i k x y, digit-mono (p n) (q n) (h n (le-refl (suc n)))))
+    (below-suc l)
+
+-- the lowest number apart
+pub count-first : (n : ℕ) (p : ℕ → Bool) → count (suc n) p ≡ digit (p 0) + count n (λ i. p (suc i))
+unfolding count
+count-first zero p = zero-add (digit (p 0)) ∙ sym (add-zero (digit (p 0)))
+count-first (suc n) p =
+    let e : count (suc n) p ≡ digit (p 0) + count n (λ i. p (suc i)) = count-first n p in omega arith
+
+pub count-all : (n : ℕ) → count n (λ i. true) ≡ n
+unfolding count
+count-all zero = refl
+count-all (suc n) = let e : count n (λ i. true) ≡ n = count-all n in omega arith
+
+pub count-none : (n : ℕ) → count n (λ i. false) ≡ 0
+unfolding count
+count-none zero = refl
+count-none (suc n) = let e : count n (λ i. false) ≡ 0 = count-none n in omega arith
+
+-- ---- the least number that passes
+pub least-none : (n : ℕ) (p : ℕ → Bool) → n ≤ least n p → (i : ℕ) → i < n → T (not (p i))
+unfolding least
+least-none zero p h i l = absurd (not-suc-le-zero l)
+least-none (suc n) p h i l = go (ltb (least n p) n) refl (p n) refl h (least-none n p)
+  where
+    go : (a : Bool) → ltb (least n p) n ≡ a → (b : Bool) → p n ≡ b → suc n ≤ cond a (least n p) (cond b n (suc n))
+        → (n ≤ least n p → (i : ℕ) → i < n → T (not (p i))) → T (not (p i))
+    go true e b f h r = let q : least n p < n = ltb→lt (least n p) n (along (sym e) tt) in absurd (omega arith)
+    go false e true f h r = absurd (omega arith)
+    go false e false f h r =
+        ⊎-elim (λ (d : i ≡ n). subst (λ (k : ℕ). T (not (p k))) (sym d) (along (ap not (sym f)) tt))
+        (λ (k : i < n). r (nltb→le (least n p) n (along (ap not (sym e)) tt)) i k)
+        (below-suc l)
+
+pub below-mem : (n i : ℕ) → i < n → List·Memᴰ i (below n)
+unfolding below
+below-mem zero i l = absurd (not-suc-le-zero l)
+below-mem (suc n) i l =
+    ⊎-elim (λ (e : i ≡ n). Memᴰ·append-right (below n) (List·Memᴰ·head e))
+    (λ (k : i < n). Memᴰ·append-left (n ∷ []) (below-mem n i k))
+    (below-suc l)

@@ -1,0 +1,10 @@
+pub mod Terms
+pub mod Implicants
+pub mod Conjunctions
+pub mod Decisions
+pub mod Sorted
+pub mod Listed
+pub mod Built
+pub mod Embeddings
+pub mod Counts
+pub mod Leaves

@@ -1,0 +1,4 @@
+pub mod Lists
+pub mod Term
+pub mod Order
+pub mod Prime

@@ -1,0 +1,35 @@
+-- Implicants and prime implicants of a function of assignments. An assignment of N variables is a number below 2 ^ N.
+use Prim.Native.Nat.{ℕ, zero, suc, _^_}
+use mathlib.Core.Bool.{Bool, _&&_, not, cond}
+use mathlib.Core.List.{List, [], _∷_, _++_, map}
+use Rattle.masks.specs.Numbers.{implied, every, below}
+use Rattle.terms.specs.Lists.{keep, sort}
+use Rattle.terms.specs.Order.{before}
+use Rattle.terms.specs.Term.{term, mentions, isTerm, agrees, without}
+use Rattle.terms.specs.declared.Term.{Term}
+
+-- every assignment that agrees with the term makes f true ("the row implies f")
+unfoldable pub implicant : ℕ → (ℕ → Bool) → Term → Bool
+implicant N f t = every (2 ^ N) (λ s. implied (agrees N t s) (f s))
+
+-- a prime implicant ("clearance"): an implicant that stops being one if any one literal is struck
+unfoldable pub prime : ℕ → (ℕ → Bool) → Term → Bool
+prime N f t = isTerm N t && implicant N f t && every N (λ x. implied (mentions t x) (not (implicant N f (without t x))))
+
+-- every pair of a positive mask of the one list and a negative mask of the other
+abbrev pub pairs : List ℕ → List ℕ → List Term
+pairs [] ns = []
+pairs (p ∷ ps) ns = map (term p) ns ++ pairs ps ns
+
+-- every term over N variables stands among these
+unfoldable pub candidates : ℕ → List Term
+candidates N = pairs (below (2 ^ N)) (below (2 ^ N))
+
+-- all prime implicants of f over N variables, in order
+unfoldable pub primes : ℕ → (ℕ → Bool) → List Term
+primes N f = sort before (keep (prime N f) (candidates N))
+
+-- an implicant with the literals of 0 to k - 1 struck in turn, each if the rest is still an implicant ("strike down")
+unfoldable pub reduce : ℕ → (ℕ → Bool) → Term → ℕ → Term
+reduce N f t zero = t
+reduce N f t (suc k) = let u : Term = reduce N f t k in cond (implicant N f (without u k)) (without u k) u

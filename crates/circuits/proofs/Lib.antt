@@ -1,1 +1,8 @@
 pub mod SmallCircuits
+pub mod BottomUp
+pub mod Tables
+pub mod Accepted
+pub mod Nodes
+pub mod Satisfiable
+pub mod Largest
+pub mod Rows

@@ -2,6 +2,7 @@
 use Prim.Native.Nat.{ℕ, zero, suc, _+_, _*_, _/_, _%_, _^_, _<_, min, max}
 use mathlib.Core.Path.{_≡_, refl, sym, ap, ap₂, _∙_}
 use mathlib.Core.Bool.{Bool, true, false, _&&_, _||_, not, cond, xor, or-true, or-false}
+use mathlib.Core.Logic.{_⊎_, ⊎-elim}
 use native.Mathlib.Nat.{mul-comm, one-mul, pow-suc, div-one, div-div-eq-div-mul, lt-of-le-of-lt}
 use native.Mathlib.Omega.{arith}
 use native.Mathlib.Numerals.{one-add}
@@ -15,7 +16,7 @@ use Rattle.masks.specs.Mask.{width, bit, put, size, subset, disjoint}
 use Rattle.masks.specs.Numbers.{digit, implied, count}
 use Rattle.masks.proofs.Masks.{mod2, digits, half-lt, bit-low, bit-rest, bit-ext, bit-below, bit-zero, bit-put, put-lt}
 use Rattle.masks.proofs.Numbers.{every-e, every-i, count-first}
-use Rattle.masks.proofs.Tests.{and-i, and-l, and-r, implied-i, implied-e, is-true, is-false, along, same-test}
+use Rattle.masks.proofs.Tests.{and-i, and-l, and-r, not-and, implied-i, implied-e, is-true, is-false, along, same-test}
 
 -- ---- an operator that works digit by digit, with `low` on the digits, works bit by bit with f
 module _ (op low : ℕ → ℕ → ℕ) (f : Bool → Bool → Bool)
@@ -131,11 +132,14 @@ unfolding subset
 subset-i a b h =
     every-i width (λ i. implied (bit a i) (bit b i)) (λ i l. implied-i (bit a i) (bit b i) (h i))
 
-pub disjoint-e : (a b : ℕ) → a < 2 ^ width → T (disjoint a b) → (i : ℕ) → T (bit a i) → T (bit b i) → ⊥
+pub disjoint-at : (a b : ℕ) → T (disjoint a b) → (i : ℕ) → i < width → T (not (bit a i)) ⊎ T (not (bit b i))
 unfolding disjoint
+disjoint-at a b t i l = not-and (bit a i) (bit b i) (every-e width (λ i. not (bit a i && bit b i)) t i l)
+
+pub disjoint-e : (a b : ℕ) → a < 2 ^ width → T (disjoint a b) → (i : ℕ) → T (bit a i) → T (bit b i) → ⊥
 disjoint-e a b h t i p q =
-    T-not (bit a i && bit b i) (every-e width (λ i. not (bit a i && bit b i)) t i (bit-below width a i h p))
-    (and-i (bit a i) (bit b i) p q)
+    ⊎-elim (λ (n : T (not (bit a i))). T-not (bit a i) n p) (λ (n : T (not (bit b i))). T-not (bit b i) n q)
+    (disjoint-at a b t i (bit-below width a i h p))
 
 pub disjoint-i : (a b : ℕ) → ((i : ℕ) → T (bit a i) → T (bit b i) → ⊥) → T (disjoint a b)
 unfolding disjoint

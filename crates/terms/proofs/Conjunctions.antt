@@ -9,8 +9,8 @@ use Rattle.masks.proofs.Tests.{and-i, and-l, and-r}
 use Rattle.terms.specs.Prime.{reduce}
 use Rattle.terms.specs.Term.{has, isTerm, without, join}
 use Rattle.terms.specs.declared.Term.{Term}
-use Rattle.terms.proofs.Implicants.{Implicant, Free, implicant-more, least, least-same, reduce-prime, free-unmentioned}
-use Rattle.terms.proofs.Implicants.{Prime}
+use Rattle.terms.proofs.Implicants.{Implicant, Free, implicant-more, prime-least, least-same, reduce-prime}
+use Rattle.terms.proofs.Implicants.{free-unmentioned, Prime}
 use Rattle.terms.proofs.Terms.{Inside, without-here, join-cases, inside-trans, without-inside, join-l, join-r, join-least}
 use Rattle.terms.proofs.Terms.{has-below, without-isTerm, join-isTerm, join-within, IsTerm}
 
@@ -125,5 +125,5 @@ module _ (N : ℕ) where
             inside-right t u b pt (j .right-prime) (inside-trans b (join a b) (join t u) (join-r a b) k) in
             subst (λ (z : Term). Inside (join t u) z) (sym (j .is))
             (join-least t u (join a b)
-            (inside-trans t a (join a b) (least N f t a pt ia (j .left-prime .holds)) (join-l a b))
-            (inside-trans u b (join a b) (least N g u b pu ib (j .right-prime .holds)) (join-r a b)))
+            (inside-trans t a (join a b) (prime-least N f t a pt ia (j .left-prime .holds)) (join-l a b))
+            (inside-trans u b (join a b) (prime-least N g u b pu ib (j .right-prime .holds)) (join-r a b)))

@@ -86,8 +86,8 @@ module _ (N : ℕ) where
   implicant-more f t u i h s l a = h s l (agrees-inside t u s i a)
 
   -- an implicant inside a prime implicant is all of it
-  pub least : (f : ℕ → Bool) (t u : Term) → Prime f t → Inside u t → Implicant f u → Inside t u
-  least f t u c i h x b p =
+  pub prime-least : (f : ℕ → Bool) (t u : Term) → Prime f t → Inside u t → Implicant f u → Inside t u
+  prime-least f t u c i h x b p =
       ⊎-elim (λ (q : T (has u b x)). q)
       (λ (q : T (not (has u b x))).
       absurd
@@ -98,7 +98,7 @@ module _ (N : ℕ) where
       (decide (has u b x))
 
   pub least-same : (f : ℕ → Bool) (t u : Term) → Prime f t → IsTerm N u → Inside u t → Implicant f u → u ≡ t
-  least-same f t u c k i h = term-ext N u t k (c .isTerm) i (least f t u c i h)
+  least-same f t u c k i h = term-ext N u t k (c .isTerm) i (prime-least f t u c i h)
 
   -- ---- T1: reduction finds a prime implicant inside an implicant
   module _ (f : ℕ → Bool) (t : Term) where

@@ -13,9 +13,10 @@ use Rattle.masks.proofs.Numbers.{some-e, least-none}
 use Rattle.masks.proofs.Tests.{and-l, and-r, not-and, not-not, along}
 use Rattle.terms.specs.Lists.{any}
 use Rattle.terms.proofs.Sorted.{any-e}
-use Rattle.circuits.specs.Check.{inRange, malformed, parentless, undecomposable, unreduced, firstFault, rules, check}
-use Rattle.circuits.specs.Check.{accepted, refused}
+use Rattle.circuits.specs.Check.{inRange, malformed, parentless, undecomposable, unreduced, accepted, firstFault, rules}
+use Rattle.circuits.specs.Check.{check}
 use Rattle.circuits.specs.Node.{nodeAt, children}
+use Rattle.circuits.specs.Outcome.{refused}
 
 no-fault : (n : ℕ) (rs : List (ℕ × (ℕ → Bool))) → firstFault n rs ≡ accepted
     → (r : ℕ × (ℕ → Bool)) → List·Memᴰ r rs → (i : ℕ) → i < n → T (not (r .1 i))

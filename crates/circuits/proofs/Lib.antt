@@ -6,3 +6,4 @@ pub mod Nodes
 pub mod Satisfiable
 pub mod Largest
 pub mod Rows
+pub mod Gates

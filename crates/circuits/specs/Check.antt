@@ -10,6 +10,7 @@ use Rattle.terms.specs.Lists.{any}
 use Rattle.circuits.specs.Function.{union, support}
 use Rattle.circuits.specs.Node.{kind, nodeWords, word, nodeAt, children, Kind, constantKind, literalKind, decisionKind}
 use Rattle.circuits.specs.Node.{conjunctionKind, unknownKind, Node, constant, literal, decision, conjunction, unknown}
+use Rattle.circuits.specs.Outcome.{Outcome, answered, refused}
 
 -- a kind that uses the word fact, and one that uses the words a and b
 abbrev pub usesVariable : Kind → Bool
@@ -90,17 +91,16 @@ nodeDead p unknown = false
 unfoldable pub unreduced : List ℕ → ℕ → Bool
 unreduced w i = nodeDead (λ c. isFalse (nodeAt w c)) (nodeAt w i)
 
-pub data Checked : Type 0 where
-  accepted : Checked
-  -- the number and the node
-  refused : ℕ → ℕ → Checked
+-- the table is accepted
+abbrev pub accepted : Outcome (Unit {0})
+accepted = answered tt
 
 -- the first rule that some node below n breaks, with its lowest such node
-abbrev pub firstFault : ℕ → List (ℕ × (ℕ → Bool)) → Checked
+abbrev pub firstFault : ℕ → List (ℕ × (ℕ → Bool)) → Outcome (Unit {0})
 firstFault n [] = accepted
 firstFault n (r ∷ rs) =
     let i : ℕ = least n (r .1) in
-    let rest : Checked = firstFault n rs in
+    let rest : Outcome (Unit {0}) = firstFault n rs in
     cond (ltb i n) (refused (r .0) i) rest
 
 -- the rules for the nodes, in their order
@@ -108,8 +108,8 @@ abbrev pub rules : ℕ → ℕ → List ℕ → List (ℕ × (ℕ → Bool))
 rules N n w = (22, malformed N w) ∷ (23, parentless w n) ∷ (24, undecomposable w) ∷ (25, unreduced w) ∷ []
 
 -- the check of a table of n nodes over N variables
-unfoldable pub check : ℕ → ℕ → List ℕ → Checked
-check N n w = let nodes : Checked = firstFault n (rules N n w) in cond (inRange N n w) nodes (refused 21 0)
+unfoldable pub check : ℕ → ℕ → List ℕ → Outcome (Unit {0})
+check N n w = let nodes : Outcome (Unit {0}) = firstFault n (rules N n w) in cond (inRange N n w) nodes (refused 21 0)
 
 -- neither 21 nor 22 ("well-formed")
 unfoldable pub wellFormedTable : ℕ → ℕ → List ℕ → Bool

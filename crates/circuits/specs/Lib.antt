@@ -1,4 +1,6 @@
 pub mod Node
+pub mod Gate
 pub mod Function
+pub mod Outcome
 pub mod Check
 pub mod Small

@@ -7,10 +7,11 @@ use lib.ListN.{length}
 use Rattle.masks.specs.Numbers.{count}
 use Rattle.terms.specs.Lists.{all}
 use Rattle.terms.specs.Prime.{primes}
-use Rattle.terms.specs.Term.{term}
+use Rattle.terms.specs.Term.{term, variables}
 use Rattle.terms.specs.declared.Term.{Term}
-use Rattle.circuits.specs.Check.{check, Checked, accepted, refused}
+use Rattle.circuits.specs.Check.{check}
 use Rattle.circuits.specs.Function.{function}
+use Rattle.circuits.specs.Outcome.{Outcome, answered, refused}
 
 -- what is known of a table
 pub data Known : Type 0 where
@@ -32,12 +33,12 @@ sameTerms [] (u ∷ us) = false
 sameTerms (t ∷ ts) [] = false
 sameTerms (t ∷ ts) (u ∷ us) = eqb (t .positive) (u .positive) && eqb (t .negative) (u .negative) && sameTerms ts us
 
-abbrev refusedAs : ℕ → ℕ → Checked → Bool
-refusedAs k i accepted = false
+abbrev refusedAs : ℕ → ℕ → Outcome (Unit {0}) → Bool
+refusedAs k i (answered u) = false
 refusedAs k i (refused k′ i′) = eqb k k′ && eqb i i′
 
-abbrev isAccepted : Checked → Bool
-isAccepted accepted = true
+abbrev isAccepted : Outcome (Unit {0}) → Bool
+isAccepted (answered u) = true
 isAccepted (refused k i) = false
 
 -- the circuit is the last node

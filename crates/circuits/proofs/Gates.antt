@@ -1,10 +1,12 @@
 -- Laws that the code's reading of a node rests on.
 use Prim.Native.Nat.{ℕ, zero, suc, _*_}
-use mathlib.Core.Path.{_≡_, refl, ap, _∙_}
+use mathlib.Core.Path.{_≡_, refl, sym, ap, _∙_}
+use mathlib.Core.Bool.{not}
 use mathlib.Core.Logic.{_≢_}
 use mathlib.Core.List.{List}
 use native.Mathlib.Nat.{add-zero}
 use lib.ListN.{getD}
+use Rattle.circuits.specs.Check.{wellFormed, malformed}
 use Rattle.circuits.specs.Node.{kind, node, word, nodeAt, Kind, unknownKind}
 
 -- the node by the kind word that was read
@@ -24,3 +26,11 @@ kind-above (suc (suc (suc zero))) a b c d e f = absurd (d refl)
 kind-above (suc (suc (suc (suc zero)))) a b c d e f = absurd (e refl)
 kind-above (suc (suc (suc (suc (suc zero))))) a b c d e f = absurd (f refl)
 kind-above (suc (suc (suc (suc (suc (suc k)))))) a b c d e f = refl
+
+-- whether node i is malformed, by the kind word that was read
+pub malformed-kind : (N : ℕ) (w : List ℕ) (i : ℕ) (k : Kind) → kind (getD w (4 * i) 0) ≡ k
+    → not (wellFormed N i k (word w i 1) (word w i 2) (word w i 3)) ≡ malformed N w i
+unfolding malformed
+malformed-kind N w i k e =
+    ap (λ (t : Kind). not (wellFormed N i t (word w i 1) (word w i 2) (word w i 3)))
+    (sym (ap (λ (j : ℕ). kind (getD w j 0)) (add-zero (4 * i)) ∙ e))

@@ -1,4 +1,3 @@
-pub mod SmallCircuits
 pub mod BottomUp
 pub mod Tables
 pub mod Accepted

@@ -18,7 +18,6 @@ use Rattle.terms.proofs.Terms.{without-here, extend-here, extend-there, empty-h
 use Rattle.circuits.specs.Check.{allDisjoint, nodeMeets, undecomposable}
 use Rattle.circuits.specs.Function.{signed, nodeValue, function, union, support}
 use Rattle.circuits.specs.Node.{nodeAt, Node, decision, conjunction}
-use Rattle.circuits.specs.Small.{holds}
 use Rattle.circuits.proofs.Accepted.{variables-wide, Accepted}
 use Rattle.circuits.proofs.Tables.{Fits, all-free, fits, function-of, not-under-free}
 

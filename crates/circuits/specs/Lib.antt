@@ -3,4 +3,4 @@ pub mod Gate
 pub mod Function
 pub mod Outcome
 pub mod Check
-pub mod Small
+pub mod Known

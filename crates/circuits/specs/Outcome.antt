@@ -1,10 +1,10 @@
--- What an operation on a table answers, and the papers' numbers of its refusals.
+-- What an operation answers, and the papers' numbers of its refusals.
 use Prim.Native.Nat.{ℕ}
 use Rattle.circuits.specs.declared.Refusal.{Refusal}
 use Rattle.circuits.specs.declared.Refusal.the-variants.{Range, Malformed, Parentless, Undecomposable, Unreduced}
 use Rattle.circuits.specs.declared.Refusal.the-variants.{Assignment, NotTerm, Unsatisfied, Buffers, Capacity}
 
--- a value, or a refusal: its number and its node
+-- a value, or a refusal: its number and its node, place or needed length
 pub data Outcome (A : Type 0) : Type 0 where
   answered : A → Outcome A
   refused : ℕ → ℕ → Outcome A

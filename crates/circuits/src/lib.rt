@@ -5,6 +5,8 @@ ghost use lib.ListN.{length};
 ghost use Rattle.circuits.specs.Node.{nodeAt, nodeWords};
 ghost use Rattle.circuits.specs.Gate.{gateNode};
 
+pub mod table;
+
 // Why an operation on a table refuses; specs/Outcome.antt has the papers' numbers.
 pub enum Refusal {
     // N or n out of range, or too few words

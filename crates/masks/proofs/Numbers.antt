@@ -1,7 +1,7 @@
 -- Laws of the tests of the numbers below a bound.
 use Prim.Native.Nat.{ℕ, zero, suc, _+_, _<_, _≤_}
 use mathlib.Core.Path.{_≡_, refl, sym, ap, ap₂, subst, _∙_}
-use mathlib.Core.Bool.{Bool, true, false, not, cond}
+use mathlib.Core.Bool.{Bool, true, false, _&&_, not, cond}
 use mathlib.Core.Logic.{⊎-elim}
 use mathlib.Core.List.{[], _∷_, List·Memᴰ, List·Memᴰ·head, Memᴰ·append-left, Memᴰ·append-right}
 use native.Mathlib.Nat.{not-suc-le-zero, le-refl, add-zero, zero-add}
@@ -22,6 +22,18 @@ pub every-i : (n : ℕ) (p : ℕ → Bool) → ((i : ℕ) → i < n → T (p i))
 unfolding every
 every-i zero p h = tt
 every-i (suc n) p h = and-i (p n) (every n p) (h n (le-refl (suc n))) (every-i n p (λ i l. h i (omega arith)))
+
+-- the lowest number apart
+pub every-first : (n : ℕ) (p : ℕ → Bool) → every (suc n) p ≡ (p 0 && every n (λ i. p (suc i)))
+unfolding every
+every-first zero p = refl
+every-first (suc n) p =
+    ap (λ (t : Bool). p (suc n) && t) (every-first n p) ∙ swap (p (suc n)) (p 0) (every n (λ i. p (suc i)))
+  where
+    swap : (a b c : Bool) → (a && (b && c)) ≡ (b && (a && c))
+    swap true b c = refl
+    swap false true c = refl
+    swap false false c = refl
 
 pub some-e : (n : ℕ) (p : ℕ → Bool) → T (some n p) → (i : ℕ) × (i < n) × T (p i)
 unfolding some
@@ -88,6 +100,17 @@ pub count-none : (n : ℕ) → count n (λ i. false) ≡ 0
 unfolding count
 count-none zero = refl
 count-none (suc n) = let e : count n (λ i. false) ≡ 0 = count-none n in omega arith
+
+-- those that pass and those that do not are all
+pub count-not : (n : ℕ) (p : ℕ → Bool) → count n p + count n (λ i. not (p i)) ≡ n
+unfolding count
+count-not zero p = refl
+count-not (suc n) p = go (p n) (count-not n p)
+  where
+    go : (b : Bool) → count n p + count n (λ i. not (p i)) ≡ n
+        → (count n p + digit b) + (count n (λ i. not (p i)) + digit (not b)) ≡ suc n
+    go true e = omega arith
+    go false e = omega arith
 
 -- ---- the least number that passes
 pub least-none : (n : ℕ) (p : ℕ → Bool) → n ≤ least n p → (i : ℕ) → i < n → T (not (p i))

@@ -1,14 +1,14 @@
 -- The operators of the code, by bits: `&`, `|`, `^`, shifts, `count_ones` and comparisons of masks.
-use Prim.Native.Nat.{ℕ, zero, suc, _+_, _*_, _/_, _%_, _^_, _<_, min, max}
+use Prim.Native.Nat.{ℕ, zero, suc, _+_, _*_, _/_, _%_, _^_, _<_, _≤_, min, max}
 use mathlib.Core.Path.{_≡_, refl, sym, ap, ap₂, _∙_}
 use mathlib.Core.Bool.{Bool, true, false, _&&_, _||_, not, cond, xor, or-true, or-false}
 use mathlib.Core.Logic.{_⊎_, ⊎-elim}
-use native.Mathlib.Nat.{mul-comm, one-mul, pow-suc, div-one, div-div-eq-div-mul, lt-of-le-of-lt}
+use native.Mathlib.Nat.{mul-comm, one-mul, pow-suc, div-one, div-div-eq-div-mul, lt-of-le-of-lt, lt-of-lt-of-le}
 use native.Mathlib.Omega.{arith}
 use native.Mathlib.Numerals.{one-add}
 use lib.Dec.{T, T-not, not-T, eqb, eqb→eq, lit<, eqb·zero-suc, eqb·suc-zero, eqb·suc-suc}
 use lib.Bits.{bitAnd, bitOr, bitXor, differ, and-step, or-step, xor-step, and-le-l, and-lt, or-lt, xor-lt}
-use lib.Pow.{pow-pos, pow-lt, shl-exact}
+use lib.Pow.{pow-pos, pow-lt, pow-mono, shl-exact}
 use lib.Count.{ones, ones-step}
 use lib.Arith.{lt-one}
 use borrow.Author.Tests.{eq-eqb}
@@ -120,6 +120,10 @@ count-ones (suc n) m h =
 pub ones-size : (m : ℕ) → m < 2 ^ width → ones m ≡ size m
 unfolding size
 ones-size m h = sym (count-ones width m h)
+
+-- the bits of a mask of n variables, counted below n
+pub size-within : (n m : ℕ) → n ≤ width → m < 2 ^ n → size m ≡ count n (bit m)
+size-within n m l h = sym (ones-size m (lt-of-lt-of-le h (pow-mono l))) ∙ sym (count-ones n m h)
 
 -- ---- masks as sets
 pub subset-e : (a b : ℕ) → a < 2 ^ width → T (subset a b) → (i : ℕ) → T (bit a i) → T (bit b i)

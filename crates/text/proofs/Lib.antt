@@ -1,0 +1,15 @@
+pub mod Laws
+pub mod Pieces
+pub mod Printed
+pub mod Clean
+pub mod Texts
+pub mod Locality
+pub mod Grammar
+pub mod Viability
+pub mod Meaning
+pub mod Refusals
+pub mod RoundTrip
+pub mod Ordered
+pub mod AssignmentLines
+pub mod AssignmentMeaning
+pub mod SmallCircuits

@@ -1,0 +1,134 @@
+-- What reading a circuit text means, by the trees that print to it.
+use Prim.Native.Nat.{ℕ, zero, suc, _+_, _-_, _*_, _/_, _<_, _≤_}
+use mathlib.Core.Path.{_≡_, refl, sym, ap, ap₂, subst, _∙_}
+use mathlib.Core.List.{List, [], _∷_, _++_}
+use native.Mathlib.Nat.{zero-add}
+use native.Mathlib.Omega.{arith}
+use native.Mathlib.Decide.{decLt}
+use lib.ListN.{length, drop, replicate, length-replicate}
+use lib.Seq.{sets, sets-eq}
+use borrow.Author.Tests.{lt-ltb, le-ltb}
+use Rattle.masks.specs.Mask.{within}
+use Rattle.terms.specs.Term.{variables}
+use Rattle.circuits.specs.Outcome.{Outcome, answered, refused}
+use Rattle.text.specs.Faults.{treeFaults}
+use Rattle.text.specs.Read.{answers, roomOf, readText, ReadOut}
+use Rattle.text.specs.Syntax.{print, compileLines, compile, Tree, Grammatical, Compiled, Within}
+use Rattle.text.proofs.Clean.{lines-compiled, tree-clean, clean-tree}
+use Rattle.text.proofs.Grammar.{IsText}
+use Rattle.text.proofs.Texts.{AnswerRead, readBody, treeGood, tree-read}
+use Rattle.text.proofs.Viability.{Bytes, Said, body-said}
+
+-- a text of at most 40,000 bytes is read by its header and lines
+pub short : (s : List ℕ) (m : ℕ) → length s ≤ 40000 → readText s m ≡ readBody s m
+unfolding readText
+short s m l = rw (le-ltb 40000 (length s) l)
+
+-- any other is refused with 10
+pub long : (s : List ℕ) (m : ℕ) → 40000 < length s → readText s m ≡ answers (refused 10 40000) (replicate m 0)
+unfolding readText
+long s m l = rw (lt-ltb 40000 (length s) l)
+
+-- a tree within the limits that prints to s and stands for these nodes, with m lent words
+pub record Tells (s : List ℕ) (m N n : ℕ) (words : List ℕ) : Type 0 where
+  pub tree : Tree
+  pub grammatical : Grammatical tree
+  pub within : Within (roomOf m) tree
+  pub prints : print tree ≡ s
+  pub variables : tree .variables ≡ N
+  pub nodes : compile tree .nodes ≡ n
+  pub table : compile tree .words ++ replicate (m - 4 * n) 0 ≡ words
+
+drop-zeros : (k n : ℕ) → drop k (replicate {A = ℕ} n 0) ≡ replicate (n - k) 0
+drop-zeros zero n = let e : n - zero ≡ n = omega arith in rw e
+drop-zeros (suc k) zero = let e : zero - suc k ≡ 0 = omega arith in rw e
+drop-zeros (suc k) (suc n) = let e : suc n - suc k ≡ n - k = omega arith in rw e (drop-zeros k n)
+
+room-words : (m : ℕ) → 4 * roomOf m ≤ m
+room-words m = by (decLt (m / 4) 1024)
+  where
+    by : Dec (m / 4 < 1024) → 4 * roomOf m ≤ m
+    by (yes h) = rw (lt-ltb (m / 4) 1024 h) (omega arith)
+    by (no h) = rw (le-ltb (m / 4) 1024 (omega arith)) (omega arith)
+
+-- the words of a tree that fits, and zeros after them
+words-are : (t : Tree) (m : ℕ) → compile t .nodes ≤ roomOf m
+    → sets (replicate m 0) 0 (compile t .words) ≡ compile t .words ++ replicate (m - 4 * compile t .nodes) 0
+unfolding compile
+words-are t m l =
+    let c : Compiled = compileLines [] 0 (t .lines) in
+    let (i, j) = lines-compiled [] 0 (t .lines) in
+    let a : length (c .words) ≡ 4 * c .nodes = omega arith in
+    let f : 0 + length (c .words) ≤ length (replicate {A = ℕ} m 0) = omega (arith, room-words m, length-replicate {A = ℕ} m 0) in
+    sets-eq (c .words) (replicate m 0) 0 f
+    ∙ ap (λ (z : List ℕ). c .words ++ z) (drop-zeros (0 + length (c .words)) m ∙ ap (λ (z : ℕ). replicate {A = ℕ} (m - z) 0)
+    (zero-add (length (c .words)) ∙ a))
+
+-- a tree within the limits is read as what it stands for
+pub read-complete : (s : List ℕ) (m N n : ℕ) (words : List ℕ) → Tells s m N n words → readText s m ≡ answers (answered (N, n)) words
+read-complete s m N n words h =
+    let t : Tree = h .tree in
+    let e : length s ≤ 40000 = subst (λ (z : List ℕ). length z ≤ 40000) (h .prints) (h .within .bytes) in
+    let r : readBody (print t) m ≡ treeGood t m =
+    subst (λ (z : List (ℕ × ℕ)). AnswerRead z (treeGood t m) (readBody (print t) m)) (clean-tree (roomOf m) t (h .within))
+    (tree-read t m (h .grammatical)) in
+    short s m e ∙ ap (λ (z : List ℕ). readBody z m) (sym (h .prints)) ∙ r
+    ∙ ap₂ (λ (y : ℕ × ℕ) (z : List ℕ). answers (answered y) z) (λ i. (h .variables i, h .nodes i))
+    (words-are t m (h .within .capacity) ∙ ap (λ (z : ℕ). compile t .words ++ replicate (m - 4 * z) 0) (h .nodes) ∙ h .table)
+
+pub value-not : {A : Type 0} (v : A) (k p : ℕ) → _≡_ {A = Outcome A} (answered v) (refused k p) → ⊥
+value-not v k p e = let z : _≡_ {A = ℕ} 0 1 = cc in omega arith
+
+not-long : (s : List ℕ) (m N n : ℕ) (words : List ℕ) → readText s m ≡ answers (answered (N, n)) words → length s ≤ 40000
+not-long s m N n words e = by (decLt 40000 (length s))
+  where
+    by : Dec (40000 < length s) → length s ≤ 40000
+    by (no l) = omega arith
+    by (yes l) =
+        absurd (value-not (N, n) 10 40000 (ap (λ (z : ReadOut). z .answer) (sym e ∙ long s m l)))
+
+-- a text that is read is that of a tree within the limits, and the words are the tree's
+pub read-sound : (s : List ℕ) (m N n : ℕ) (words : List ℕ) → Bytes s → readText s m ≡ answers (answered (N, n)) words → Tells s m N n words
+read-sound s m N n words bytes e = from (accepted bytes)
+  where
+    l : length s ≤ 40000
+    l = not-long s m N n words e
+
+    body : readBody s m ≡ answers (answered (N, n)) words
+    body = sym (short s m l) ∙ e
+
+    accepted : Bytes s → IsText s
+    accepted = subst (Said s) (ap (λ (z : ReadOut). z .answer) body) (body-said s m)
+
+    from : IsText s → Tells s m N n words
+    from (t, gr, i) = by (treeFaults (roomOf m) t) refl (tree-read t m gr)
+      where
+        here : readBody (print t) m ≡ answers (answered (N, n)) words
+        here = ap (λ (z : List ℕ). readBody z m) i ∙ body
+
+        first : Outcome (ℕ × ℕ) → ℕ
+        first (answered v) = v .0
+        first (refused k p) = 0
+
+        second : Outcome (ℕ × ℕ) → ℕ
+        second (answered v) = v .1
+        second (refused k p) = 0
+
+        by : (fs : List (ℕ × ℕ)) → treeFaults (roomOf m) t ≡ fs → AnswerRead fs (treeGood t m) (readBody (print t) m) → Tells s m N n words
+        by (f ∷ fs) c r = absurd (value-not (N, n) (f .0) (f .1) (ap (λ (z : ReadOut). z .answer) (sym here) ∙ r))
+        by [] c r =
+            let w : Within (roomOf m) t = tree-clean (roomOf m) t (subst (λ (z : List ℕ). length z ≤ 40000) (sym i) l) c in
+            let good : treeGood t m ≡ answers (answered (N, n)) words = sym r ∙ here in
+            let v : _≡_ {A = Outcome (ℕ × ℕ)} (answered (t .variables, compile t .nodes)) (answered (N, n)) = ap
+            (λ (z : ReadOut). z .answer) good in
+            let nodes : compile t .nodes ≡ n = ap second v in
+            record {
+              tree = t;
+              grammatical = gr;
+              within = w;
+              prints = i;
+              variables = ap first v;
+              nodes = nodes;
+              table = sym (words-are t m (w .capacity) ∙ ap (λ (z : ℕ). compile t .words ++ replicate (m - 4 * z) 0) nodes) ∙ ap
+                  (λ (z : ReadOut). z .words) good;
+            }

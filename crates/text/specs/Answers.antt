@@ -1,0 +1,34 @@
+-- The answers of the operations on text, by the papers' numbers.
+use Prim.Native.Nat.{ℕ}
+use Rattle.circuits.specs.Outcome.{Outcome, answered, refused}
+use Rattle.text.specs.declared.answer.AssignmentReading.the-variants.{Assignment, Variables, Misshapen, Misplaced}
+use Rattle.text.specs.declared.answer.AssignmentReading.{AssignmentReading}
+use Rattle.text.specs.declared.answer.Fault.the-variants.{Length, Shape, Range, Reference, Depth, Capacity}
+use Rattle.text.specs.declared.answer.Fault.{Fault}
+use Rattle.text.specs.declared.answer.Reading.the-variants.{Circuit, Refused}
+use Rattle.text.specs.declared.answer.Reading.{Reading}
+
+abbrev pub faultNumber : Fault → ℕ
+faultNumber Length = 10
+faultNumber Shape = 11
+faultNumber Range = 12
+faultNumber Reference = 13
+faultNumber Depth = 14
+faultNumber Capacity = 15
+
+-- the numbers of variables and of nodes
+abbrev pub readingOf : Reading → Outcome (ℕ × ℕ)
+readingOf (Circuit N n) = answered (N, n)
+readingOf (Refused f p) = refused (faultNumber f) p
+
+-- the mask of the variables that are true
+abbrev pub assignmentOf : AssignmentReading → Outcome ℕ
+assignmentOf (Assignment m) = answered m
+assignmentOf Variables = refused 21 0
+assignmentOf (Misshapen p) = refused 51 p
+assignmentOf (Misplaced p) = refused 52 p
+
+-- the mask that is returned: 0 with a refusal
+abbrev pub maskOf : Outcome ℕ → ℕ
+maskOf (answered m) = m
+maskOf (refused k p) = 0

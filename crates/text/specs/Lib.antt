@@ -1,0 +1,10 @@
+pub mod Ascii
+pub mod Syntax
+pub mod Answers
+pub mod Read
+pub mod Places
+pub mod Faults
+pub mod Write
+pub mod AssignmentLine
+pub mod AssignmentSyntax
+pub mod Small

@@ -1,0 +1,51 @@
+-- The writing of a table as circuit text: node i as line i, each child as `(line K)`.
+use Prim.Native.Nat.{ℕ}
+use mathlib.Core.Bool.{false, cond}
+use mathlib.Core.List.{List, [], _∷_, _++_, map}
+use lib.Dec.{ltb}
+use lib.ListN.{length, getD, drop}
+use Rattle.masks.specs.Numbers.{below}
+use Rattle.terms.specs.Term.{variables}
+use Rattle.circuits.specs.Check.{inRange, malformed, firstFault}
+use Rattle.circuits.specs.Node.{nodeAt, Node, constant, literal, decision, conjunction, unknown}
+use Rattle.circuits.specs.Outcome.{Outcome, answered, refused}
+use Rattle.text.specs.Syntax.{print, Tree, Form, constantForm, literalForm, decisionForm, conjunctionForm, lineForm}
+
+-- a node's form (no node of a written table is unknown)
+abbrev pub nodeForm : Node → Form
+nodeForm (constant v) = constantForm v
+nodeForm (literal v x) = literalForm v x
+nodeForm (decision x a b) = decisionForm x (lineForm a) (lineForm b)
+nodeForm (conjunction cs) = conjunctionForm (lineForm (getD cs 0 0)) (lineForm (getD cs 1 0))
+nodeForm unknown = constantForm false
+
+-- the syntax tree of a table of n nodes over N variables
+abbrev pub tableTree : ℕ → ℕ → List ℕ → Tree
+tableTree N n w = record { variables = N; lines = map (λ i. nodeForm (nodeAt w i)) (below n) }
+
+unfoldable pub tableText : ℕ → ℕ → List ℕ → List ℕ
+tableText N n w = print (tableTree N n w)
+
+-- the answer, the text's length, with the sink afterwards
+pub record WriteOut : Type 0 where
+  pub answer : Outcome ℕ
+  pub sink : List ℕ
+
+-- a text into a sink: 16 where it is too long; bytes past the text never change
+abbrev pub writeText : List ℕ → List ℕ → WriteOut
+writeText text sink =
+    cond (ltb (length sink) (length text))
+    (record { answer = refused 16 (length text); sink = sink })
+    (record { answer = answered (length text); sink = text ++ drop (length text) sink })
+
+abbrev pub writeChecked : List ℕ → List ℕ → Outcome (Unit {0}) → WriteOut
+writeChecked text sink (answered u) = writeText text sink
+writeChecked text sink (refused k i) = record { answer = refused k i; sink = sink }
+
+-- 21, then 22 with its lowest node
+unfoldable pub checkWords : ℕ → ℕ → List ℕ → Outcome (Unit {0})
+checkWords N n w = cond (inRange N n w) (firstFault n ((22, malformed N w) ∷ [])) (refused 21 0)
+
+-- writing the table into a sink
+unfoldable pub writeTable : ℕ → ℕ → List ℕ → List ℕ → WriteOut
+writeTable N n w sink = writeChecked (tableText N n w) sink (checkWords N n w)

@@ -1,0 +1,61 @@
+// The answers of the operations on text.
+
+// Why a circuit text is refused.
+pub enum Fault {
+    // 10: over 40,000 bytes
+    Length,
+    // 11: wrong shape
+    Shape,
+    // 12: N or V outside its range
+    Range,
+    // 13: K not an earlier line
+    Reference,
+    // 14: a bracket seventeen deep
+    Depth,
+    // 15: no room for the node
+    Capacity,
+}
+
+pub enum Reading {
+    // the number of variables and the number of nodes
+    Circuit(u32, u32),
+    // why, and the place
+    Refused(Fault, usize),
+}
+
+pub enum AssignmentReading {
+    // the mask of the variables that are true
+    Assignment(u64),
+    // 21: a number of variables outside its range
+    Variables,
+    // 51: wrong shape, at this place
+    Misshapen(usize),
+    // 52: a variable out of range or out of order, at this place
+    Misplaced(usize),
+}
+
+// After a form was read.
+pub enum Step {
+    Stop(Fault, usize),
+    // the place past the form, the number of nodes now, and the node that the form means
+    Made(usize, u32, u32),
+}
+
+// After two forms were read.
+pub enum Pair {
+    Halt(Fault, usize),
+    // the place past both forms, the number of nodes now, and the two nodes
+    Two(usize, u32, u32, u32),
+}
+
+// What stands next in an assignment line.
+pub enum Member {
+    // the closing bracket; the place past it
+    Close(usize),
+    // a variable, and the place past it
+    Next(u32, usize),
+    // 51 and its place
+    Wrong(usize),
+    // 52 and its place
+    Unordered(usize),
+}

@@ -1,0 +1,85 @@
+-- `text_assignment::assignment::read_assignment` meets its contract.
+use Prim.Native.Nat.{ℕ, _<_, _≤_}
+use mathlib.Core.List.{List}
+use mathlib.Core.Path.{_≡_, sym, subst, _∙_}
+use native.Mathlib.Omega.{arith}
+use borrow.Author.Needs.{needs}
+use borrow.Author.Tests.{le-leb, lt-leb}
+use Rattle.circuits.specs.Outcome.{refused}
+use Rattle.text.specs.Ascii.{ascii}
+use Rattle.text.specs.AssignmentLine.{stowThen, readAssignment}
+use Rattle.text.specs.Places.{MatchedRuns}
+use Rattle.text.specs.Read.{matchAt}
+use Rattle.text.specs.declared.head.Matched.{Matched}
+use Rattle.text_assignment.proofs.assignment.read_assignment.Statement.{statement}
+use Rattle.text_assignment.proofs.assignment.read_assignment.Tie as tie
+
+module _ (s : List ℕ) (N : ℕ) where
+  few : N < 1 → refused 21 0 ≡ readAssignment s N
+  unfolding readAssignment
+  few h = rw (lt-leb 1 N h)
+
+  many : 1 ≤ N → 40 < N → refused 21 0 ≡ readAssignment s N
+  unfolding readAssignment
+  many l h = rw (le-leb 1 N l, lt-leb N 40 h)
+
+  matched : 1 ≤ N → N ≤ 40 → (x : Matched) → x ≡ matchAt s 0 (ascii "(stow") → stowThen s N x ≡ readAssignment s N
+  unfolding readAssignment
+  matched l h x e = rw (le-leb 1 N l, le-leb N 40 h, ← e)
+
+returns : tie.Need-returns
+returns c =
+    few _ _ (c .if1 .taken)
+
+returns-2 : tie.Need-returns-2
+returns-2 c =
+    many _ _ (c .before .if1 .left) (c .if2 .taken)
+
+slice-aggregate-literal : tie.Need-slice-aggregate-literal
+slice-aggregate-literal c = search needs
+
+literal-requires : tie.Need-literal-requires
+literal-requires c κs = search needs
+
+enum-known-p : tie.Need-enum-known-p
+enum-known-p c = search needs
+
+enum-known-p-2 : tie.Need-enum-known-p-2
+enum-known-p-2 c = search needs
+
+members-requires : tie.Need-members-requires
+members-requires c κs =
+    let at-literal = c .before .before .before in
+    let start = at-literal .before .before .before .before .before in
+    let n = subst (MatchedRuns (start .args .line .now) 0) (c .before .p2 .given .1) (at-literal .literal .ensures .1) in
+    omega (arith, n)
+
+returns-3 : tie.Need-returns-3
+returns-3 c =
+    let at-literal = c .before .before .before in
+    let at-if2 = at-literal .before .before in
+    let at-if1 = at-if2 .before in
+    matched _ _ (at-if1 .if1 .left) (at-if2 .if2 .left) _ (sym (c .before .p .given .1) ∙ at-literal .literal .ensures .0)
+
+returns-4 : tie.Need-returns-4
+returns-4 c =
+    let at-p2 = c .before .before in
+    let at-literal = at-p2 .before .before in
+    let at-if2 = at-literal .before .before in
+    let at-if1 = at-if2 .before in
+    c .members .ensures ∙ matched _ _ (at-if1 .if1 .left) (at-if2 .if2 .left) _
+    (sym (at-p2 .p2 .given .1) ∙ at-literal .literal .ensures .0)
+
+pub read-assignment-spec : {M : Type 1} → statement M
+read-assignment-spec =
+    tie.close
+    (tie.spec
+    returns
+    returns-2
+    slice-aggregate-literal
+    literal-requires
+    enum-known-p
+    enum-known-p-2
+    members-requires
+    returns-3
+    returns-4)

@@ -1,0 +1,2 @@
+// The reading of assignment lines.
+pub mod assignment;

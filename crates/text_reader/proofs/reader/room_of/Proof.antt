@@ -1,0 +1,20 @@
+-- `text_reader::reader::room_of` meets its contract.
+use native.Mathlib.Omega.{arith}
+use borrow.Author.Needs.{needs}
+use borrow.Author.Tests.{lt-ltb, le-ltb}
+use Rattle.text_reader.proofs.reader.room_of.Statement.{statement}
+use Rattle.text_reader.proofs.reader.room_of.Tie as tie
+
+cast-result : tie.Need-cast-result
+cast-result c = search needs
+
+returns : tie.Need-returns
+returns c =
+    (rw (lt-ltb _ _ (c .if1 .taken)), omega arith, omega arith)
+
+returns-2 : tie.Need-returns-2
+returns-2 c =
+    (rw (le-ltb _ _ (c .if1 .left)), omega arith, omega arith)
+
+pub room-of-spec : {M : Type 1} → statement M
+room-of-spec = tie.close (tie.spec cast-result returns returns-2)

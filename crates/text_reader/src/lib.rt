@@ -1,0 +1,3 @@
+// The reading of circuit text.
+pub mod form;
+pub mod reader;

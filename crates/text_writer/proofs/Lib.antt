@@ -1,0 +1,2 @@
+pub mod Sinks
+pub mod Printing

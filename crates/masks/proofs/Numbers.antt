@@ -1,7 +1,7 @@
 -- Laws of the tests of the numbers below a bound.
 use Prim.Native.Nat.{ℕ, zero, suc, _+_, _<_, _≤_}
 use mathlib.Core.Path.{_≡_, refl, sym, ap, ap₂, subst, _∙_}
-use mathlib.Core.Bool.{Bool, true, false, _&&_, not, cond}
+use mathlib.Core.Bool.{Bool, true, false, _&&_, not, cond, and-assoc, and-comm}
 use mathlib.Core.Logic.{⊎-elim}
 use mathlib.Core.List.{[], _∷_, List·Memᴰ, List·Memᴰ·head, Memᴰ·append-left, Memᴰ·append-right}
 use native.Mathlib.Nat.{not-suc-le-zero, le-refl, add-zero, zero-add}
@@ -28,12 +28,11 @@ pub every-first : (n : ℕ) (p : ℕ → Bool) → every (suc n) p ≡ (p 0 && e
 unfolding every
 every-first zero p = refl
 every-first (suc n) p =
-    ap (λ (t : Bool). p (suc n) && t) (every-first n p) ∙ swap (p (suc n)) (p 0) (every n (λ i. p (suc i)))
-  where
-    swap : (a b c : Bool) → (a && (b && c)) ≡ (b && (a && c))
-    swap true b c = refl
-    swap false true c = refl
-    swap false false c = refl
+    let low : Bool = every n (λ i. p (suc i)) in
+    ap (λ (t : Bool). p (suc n) && t) (every-first n p)
+    ∙ sym (and-assoc (p (suc n)) (p 0) low)
+    ∙ ap (λ (t : Bool). t && low) (and-comm (p (suc n)) (p 0))
+    ∙ and-assoc (p 0) (p (suc n)) low
 
 pub some-e : (n : ℕ) (p : ℕ → Bool) → T (some n p) → (i : ℕ) × (i < n) × T (p i)
 unfolding some

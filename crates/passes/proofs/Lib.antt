@@ -1,0 +1,4 @@
+pub mod Readable
+pub mod Under
+pub mod ImplicantPass
+pub mod ModelPass

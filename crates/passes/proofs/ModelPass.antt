@@ -1,0 +1,220 @@
+-- The model pass: the models under a term of each node of an accepted table, from its children's.
+use Prim.Native.Nat.{ℕ, _+_, _-_, _*_, _/_, _^_, _<_, _≤_}
+use mathlib.Core.Path.{_≡_, refl, sym, ap, ap₂, subst, _∙_, fun-ext}
+use mathlib.Core.Bool.{Bool, true, false, _&&_, not, cond}
+use mathlib.Core.Logic.{⊎-elim}
+use mathlib.Core.List.{List, [], _∷_, List·Memᴰ, List·Memᴰ·head, List·Memᴰ·tail}
+use native.Mathlib.Nat.{le-trans, mul-div-cancel}
+use native.Mathlib.Omega.{arith}
+use lib.Dec.{T, T-not}
+use lib.ListN.{getD}
+use lib.Bits.{or-zero-r, bitOr, or-lt}
+use lib.Pow.{pow-pos, pow-mono}
+use Rattle.masks.specs.Mask.{width, bit, size, disjoint}
+use Rattle.masks.specs.Numbers.{count}
+use Rattle.masks.proofs.Masks.{put-lt}
+use Rattle.masks.proofs.Numbers.{count-ext, count-not}
+use Rattle.masks.proofs.Operators.{bit-or, size-within, disjoint-at}
+use Rattle.masks.proofs.Tests.{and-l, along}
+use Rattle.terms.specs.Term.{has, mentions, variables, literals, isTerm, agrees}
+use Rattle.terms.specs.declared.Term.{Term}
+use Rattle.terms.proofs.Conjunctions.{conj}
+use Rattle.terms.proofs.Terms.{isTerm-e, IsTerm}
+use Rattle.circuits.specs.Check.{allDisjoint, accepted, check}
+use Rattle.circuits.specs.Function.{signed, nodeValue, function, union, nodeSupport, support}
+use Rattle.circuits.specs.Gate.{gateNode}
+use Rattle.circuits.specs.Node.{nodeAt, children, Node, constant, literal, decision, conjunction, unknown}
+use Rattle.circuits.specs.declared.Gate.{Gate}
+use Rattle.circuits.specs.declared.Gate.the-variants.{Constant, Literal, Decision, Conjunction, Unknown}
+use Rattle.circuits.proofs.Accepted.{accepted-e, variables-le, variables-wide, Accepted}
+use Rattle.circuits.proofs.BottomUp.{branch-mem}
+use Rattle.circuits.proofs.Nodes.{sides, node-fits, function-is, not-under, decision-free, conjunction-below}
+use Rattle.circuits.proofs.Nodes.{conjunction-disjoint}
+use Rattle.circuits.proofs.Tables.{WellFormed, Fits, fits, children-below, support-of, node-induction}
+use Rattle.passes.specs.Models.{modelsUnder, scaled, ModelPass}
+use Rattle.passes.specs.Tables.{Readable, Holds, Sound}
+use Rattle.passes.proofs.Readable.{range-e, all-two}
+use Rattle.passes.proofs.Under.{models, models-ext, models-le, models-constant, models-agree, models-choice}
+use Rattle.passes.proofs.Under.{models-conjunction}
+
+module _ (N n : ℕ) (w : List ℕ) where
+  pub accepted-sound : Accepted N n w → Sound N n w
+  accepted-sound acc =
+      let r = range-e N n w (acc .range) in
+      record { narrow = r .0; first = r .1; nodes = r .2; words = r .3; well = acc .well }
+
+  -- only variables below N are under a node
+  union-lt : (v : ℕ → ℕ) (cs : List ℕ) → ((c : ℕ) → List·Memᴰ c cs → v c < 2 ^ N) → union v cs < 2 ^ N
+  union-lt v [] h = pow-pos N
+  union-lt v (c ∷ cs) h =
+      or-lt N (v c) (union v cs) (h c (List·Memᴰ·head refl)) (union-lt v cs (λ b m. h b (List·Memᴰ·tail m)))
+
+  node-support-lt : (i : ℕ) (v : ℕ → ℕ) (y : Node) → Fits N i y → ((c : ℕ) → List·Memᴰ c (children y) → v c < 2 ^ N)
+      → nodeSupport y v < 2 ^ N
+  node-support-lt i v (constant b) f h = pow-pos N
+  node-support-lt i v (literal b x) f h = put-lt N 0 x true f (pow-pos N)
+  node-support-lt i v (decision x a b) f h =
+      put-lt N (bitOr (v a) (v b)) x true (f .0)
+      (or-lt N (v a) (v b) (h a (branch-mem a b false)) (h b (branch-mem a b true)))
+  node-support-lt i v (conjunction cs) f h = union-lt v cs h
+  node-support-lt i v unknown f h = pow-pos N
+
+  pub support-lt : WellFormed N n w → (i : ℕ) → i < n → support w i < 2 ^ N
+  support-lt well =
+      node-induction N n w well (λ i. support w i < 2 ^ N)
+      (λ i l below.
+      subst (λ (m : ℕ). m < 2 ^ N) (sym (support-of N n w well i l))
+      (node-support-lt i (support w) (nodeAt w i) (fits N n w well i l) below))
+
+-- a term's literals are its variables, counted below N
+pub literals-are : (N : ℕ) (t : Term) → N ≤ width → IsTerm N t → literals t ≡ count N (mentions t)
+literals-are N t wide h =
+    size-within N (variables t) wide (or-lt N (t .positive) (t .negative) (h .fits true) (h .fits false))
+    ∙ count-ext N (bit (variables t)) (mentions t) (λ x l. bit-or (t .positive) (t .negative) x)
+
+-- what the pass keeps is the model count of the function with the literals forced
+pub scaled-is : (N : ℕ) (t : Term) (f : ℕ → Bool) → N ≤ width → (h : IsTerm N t) → scaled N f t ≡ models N t h f
+unfolding modelsUnder
+scaled-is N t f wide h =
+    ap (λ (k : ℕ). count (2 ^ N) (λ s. agrees N t s && f s) * 2 ^ k) (literals-are N t wide h) ∙ models-agree N t h f
+
+-- the pass, by the case of the gate: F holds what is kept of the children, S the variables under them
+abbrev pub gateModels : ℕ → Term → (ℕ → ℕ) → (ℕ → ℕ) → Gate → ℕ
+gateModels N t F S (Constant b) = cond b (2 ^ N) 0
+gateModels N t F S (Literal b x) =
+    cond (has t true x) (cond b (2 ^ N) 0)
+    (cond (has t false x) (cond (not b) (2 ^ N) 0) ((cond (not b) (2 ^ N) 0 + cond b (2 ^ N) 0) / 2))
+gateModels N t F S (Decision x a b) = cond (has t true x) (F b) (cond (has t false x) (F a) ((F a + F b) / 2))
+gateModels N t F S (Conjunction a b) = F a / 2 ^ (N - size (S a)) * (F b / 2 ^ size (S a))
+gateModels N t F S Unknown = 0
+
+module _ (N n : ℕ) (w : List ℕ) (acc : Accepted N n w) (t : Term) (isT : IsTerm N t) where
+  abbrev kept : ℕ → ℕ
+  kept i = models N t isT (function w i)
+
+  node-models : (i : ℕ) → i < n → (h : Gate) → nodeAt w i ≡ gateNode h → Fits N i (gateNode h)
+      → models N t isT (λ s. nodeValue s (gateNode h) (λ c. function w c s)) ≡ gateModels N t kept (support w) h
+  node-models i l (Constant b) e f = models-constant N t isT b
+  node-models i l (Literal b x) e f =
+      models-choice N t isT (λ c s. signed b c) x f (λ c s v k. refl)
+      ∙ ap₂ (λ (p q : ℕ). cond (has t true x) q (cond (has t false x) p ((p + q) / 2))) (side false) (side true)
+    where
+      sided : (b c : Bool) → signed b c ≡ cond c b (not b)
+      sided true true = refl
+      sided true false = refl
+      sided false true = refl
+      sided false false = refl
+
+      side : (c : Bool) → models N t isT (λ s. signed b c) ≡ cond (cond c b (not b)) (2 ^ N) 0
+      side c = models-constant N t isT (signed b c) ∙ ap (λ (v : Bool). cond v (2 ^ N) 0) (sided b c)
+  node-models i l (Decision x a b) e f =
+      models-choice N t isT (sides w a b) x (f .0) (decision-free N n w acc i x a b l e)
+  node-models i l (Conjunction a b) e f =
+      models-ext N t isT (λ s. nodeValue s (conjunction (a ∷ b ∷ [])) (λ c. function w c s)) (conj N (function w a) (function w b))
+      (λ s k. sym (all-two (λ c. function w c s) a b))
+      ∙ models-conjunction N t isT (function w a) (function w b) (bit (support w a))
+      (λ x k h. not-under N n w acc a x (below a (branch-mem a b false)) h)
+      (λ x k h. not-under N n w acc b x (below b (branch-mem a b true)) (apart x k h))
+      ∙ ap (λ (k : ℕ). kept a / 2 ^ (N - k) * (kept b / 2 ^ k))
+      (sym (size-within N (support w a) (variables-wide N n w acc) (support-lt N n w (acc .well) a (below a (branch-mem a b false)))))
+    where
+      below : (c : ℕ) → List·Memᴰ c (a ∷ b ∷ []) → c < n
+      below = conjunction-below N n w acc i (a ∷ b ∷ []) l e
+
+      apart : (x : ℕ) → x < N → T (bit (support w a) x) → T (not (bit (support w b) x))
+      apart x k h =
+          let wide : N ≤ width = variables-wide N n w acc in
+          ⊎-elim (λ (p : T (not (bit (support w a) x))). absurd (T-not (bit (support w a) x) p h))
+          (λ (p : T (not (bit (bitOr (support w b) 0) x))). along (ap (λ (m : ℕ). not (bit m x)) (or-zero-r (support w b))) p)
+          (disjoint-at (support w a) (bitOr (support w b) 0)
+          (and-l (disjoint (support w a) (bitOr (support w b) 0)) (allDisjoint (support w) (b ∷ []))
+          (conjunction-disjoint N n w acc i (a ∷ b ∷ []) l e)) x (omega arith))
+  node-models i l Unknown e f = absurd f
+
+  -- what is kept of node i, from the arrays
+  pub models-from : (i : ℕ) → i < n → (h : Gate) → nodeAt w i ≡ gateNode h
+      → gateModels N t (λ c. scaled N (function w c) t) (support w) h ≡ scaled N (function w i) t
+  models-from i l h e =
+      let wide : N ≤ width = variables-wide N n w acc in
+      ap (λ (F : ℕ → ℕ). gateModels N t F (support w) h) (fun-ext (λ c. scaled-is N t (function w c) wide isT))
+      ∙ sym
+      (scaled-is N t (function w i) wide isT
+      ∙ ap (models N t isT) (function-is N n w acc i (gateNode h) l e)
+      ∙ node-models i l h e (node-fits N n w acc i (gateNode h) l e))
+
+  pub scaled-le : (i : ℕ) → scaled N (function w i) t ≤ 2 ^ N
+  scaled-le i =
+      subst (λ (m : ℕ). m ≤ 2 ^ N) (sym (scaled-is N t (function w i) (variables-wide N n w acc) isT))
+      (models-le N t isT (function w i))
+
+-- only the children's entries matter
+gate-local : (N : ℕ) (t : Term) (F F′ S S′ : ℕ → ℕ) (h : Gate)
+    → ((c : ℕ) → List·Memᴰ c (children (gateNode h)) → (F c ≡ F′ c) × (S c ≡ S′ c))
+    → gateModels N t F S h ≡ gateModels N t F′ S′ h
+gate-local N t F F′ S S′ (Constant b) e = refl
+gate-local N t F F′ S S′ (Literal b x) e = refl
+gate-local N t F F′ S S′ (Decision x a b) e =
+    ap₂ (λ (p q : ℕ). cond (has t true x) q (cond (has t false x) p ((p + q) / 2))) (e a (branch-mem a b false) .0)
+    (e b (branch-mem a b true) .0)
+gate-local N t F F′ S S′ (Conjunction a b) e =
+    ap₂ (λ (p q : ℕ). p / 2 ^ (N - size (S a)) * (q / 2 ^ size (S a))) (e a (branch-mem a b false) .0)
+    (e b (branch-mem a b true) .0)
+    ∙ ap (λ (k : ℕ). F′ a / 2 ^ (N - size k) * (F′ b / 2 ^ size k)) (e a (branch-mem a b false) .1)
+gate-local N t F F′ S S′ Unknown e = refl
+
+pub constant-le : (N : ℕ) (v : Bool) (r : ℕ) → N ≤ 40 → r ≡ cond v (2 ^ N) 0 → r ≤ 2 ^ 40
+constant-le N v r l e = subst (λ (m : ℕ). m ≤ 2 ^ 40) (sym e) (go v)
+  where
+    go : (v : Bool) → cond v (2 ^ N) 0 ≤ 2 ^ 40
+    go true = pow-mono l
+    go false = omega arith
+
+module _ {N n : ℕ} {w : List ℕ} {t : Term} {sup : List ℕ} (p : ModelPass N n w t sup) where
+  acc : Accepted N n w
+  acc = accepted-e N n w (p .table)
+
+  pub pass-narrow : N ≤ 40
+  pass-narrow = variables-le N n w acc
+
+  pub pass-readable : Readable n w
+  pass-readable = (N, accepted-sound N n w acc)
+
+  module _ (i : ℕ) (l : i < n) (m : List ℕ) (held : Holds 0 (λ c. scaled N (function w c) t) i m) where
+    pub entry-le : (c : ℕ) → c < i → getD m c 0 ≤ 2 ^ 40
+    entry-le c k =
+        subst (λ (z : ℕ). z ≤ 2 ^ 40) (sym (held c k))
+        (le-trans (scaled-le N n w acc t (isTerm-e N t (p .over)) c) (pow-mono (variables-le N n w acc)))
+
+    pub models-array : {g h : Gate} → gateNode g ≡ nodeAt w i → g ≡ h
+        → gateModels N t (λ c. getD m c 0) (λ c. getD sup c 0) h ≡ scaled N (function w i) t
+    models-array {g} {h} e d =
+        let node : nodeAt w i ≡ gateNode h = sym e ∙ ap gateNode d in
+        gate-local N t (λ c. getD m c 0) (λ c. scaled N (function w c) t) (λ c. getD sup c 0) (support w) h
+        (λ c k. let b : c < i =
+        children-below N n w (acc .well) i l c (subst (λ (y : Node). List·Memᴰ c (children y)) (sym node) k) in
+        (held c b, p .under c (omega arith)))
+        ∙ models-from N n w acc t (isTerm-e N t (p .over)) i l h node
+
+    pub result-le : scaled N (function w i) t ≤ 2 ^ 40
+    result-le = le-trans (scaled-le N n w acc t (isTerm-e N t (p .over)) i) (pow-mono (variables-le N n w acc))
+
+  pub own-le : (c : ℕ) → c < n → size (getD sup c 0) ≤ N
+  own-le c k =
+      let e : size (getD sup c 0) ≡ count N (bit (support w c)) =
+      ap size (p .under c k) ∙ size-within N (support w c) (variables-wide N n w acc) (support-lt N n w (acc .well) c k) in
+      omega (arith, count-not N (bit (support w c)))
+
+-- what an accepted table gives
+module _ (N n : ℕ) (w : List ℕ) (e : check N n w ≡ accepted) where
+  pub accepted-readable : Readable n w
+  accepted-readable = (N, accepted-sound N n w (accepted-e N n w e))
+
+  pub literals-le : (t : Term) → T (isTerm N t) → literals t ≤ 40
+  literals-le t h =
+      let acc : Accepted N n w = accepted-e N n w e in
+      let l : N ≤ 40 = variables-le N n w acc in
+      omega (arith, literals-are N t (variables-wide N n w acc) (isTerm-e N t h), count-not N (mentions t))
+
+pub unscaled : (N : ℕ) (f : ℕ → Bool) (t : Term) (v k : ℕ) → v ≡ scaled N f t → k ≡ literals t → v / 2 ^ k ≡ modelsUnder N f t
+unscaled N f t v k e d =
+    ap₂ (λ (a b : ℕ). a / 2 ^ b) e d ∙ mul-div-cancel (modelsUnder N f t) (pow-pos (literals t))

@@ -1,0 +1,64 @@
+-- `queries::count_models` meets its contract.
+use Prim.Native.Nat.{ℕ, _^_}
+use mathlib.Core.Path.{_≡_, ap, _∙_}
+use borrow.Author.Needs.{needs}
+use Rattle.masks.specs.Numbers.{count}
+use Rattle.terms.specs.Term.{empty}
+use Rattle.terms.proofs.Terms.{empty-isTerm, isTerm-i}
+use Rattle.circuits.specs.Check.{accepted, check}
+use Rattle.circuits.specs.Outcome.{Outcome, answered}
+use Rattle.queries.specs.Queries.{circuit, modelCount}
+use Rattle.queries.specs.declared.Checked.{Checked}
+use Rattle.queries.proofs.Accepted.{refusal-stands, goes-on, after-accepted, models-empty}
+use Rattle.queries.proofs.count_models.Statement.{statement}
+use Rattle.queries.proofs.count_models.Tie as tie
+
+abbrev Place : Type 0
+Place = tie.After-check
+
+abbrev start : Place → tie.Start
+start p = p .before .before
+
+-- what is answered after acceptance
+abbrev rest : tie.Start → Outcome ℕ
+rest s =
+    answered (count (2 ^ (s .args .variables)) (circuit (s .args .nodes) (s .args .words .now)))
+
+went-on : (p : Place) → p .check .result ≡ Checked.Accepted
+    → check (start p .args .variables) (start p .args .nodes) (start p .args .words .now) ≡ accepted
+went-on p d = goes-on (p .check .ensures) d
+
+check-requires : tie.Need-check-requires
+check-requires c κs = search needs
+
+enum-known-c : tie.Need-enum-known-c
+enum-known-c c = search needs
+
+enum-told : tie.Need-enum-told
+enum-told c = search needs
+
+models-under-requires : tie.Need-models-under-requires
+models-under-requires c κs =
+    let p = c .before .before in
+    let s = start p in
+    let e = went-on p (c .enum-told .given .1) in
+    (e, isTerm-i (s .args .variables) empty (empty-isTerm (s .args .variables)))
+
+returns : tie.Need-returns
+unfolding modelCount
+returns c = let p = c .before .before .before in refusal-stands (p .check .ensures) (rest (start p)) (c .before .c .given .1)
+
+returns-2 : tie.Need-returns-2
+unfolding modelCount
+returns-2 c =
+    let p = c .before .before .before in
+    let s = start p in
+    let e = went-on p (c .before .enum-told .given .1) in
+    ap answered
+    (c .models-under .ensures ∙ models-empty (s .args .variables) (circuit (s .args .nodes) (s .args .words .now)))
+    ∙ after-accepted e (answered (count (2 ^ (s .args .variables)) (circuit (s .args .nodes) (s .args .words .now))))
+
+pub count-models-spec : {M : Type 1} → statement M
+count-models-spec =
+    tie.close
+    (tie.spec check-requires enum-known-c enum-told models-under-requires returns returns-2)

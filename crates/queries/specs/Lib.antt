@@ -1,0 +1,3 @@
+pub mod Children
+pub mod Answers
+pub mod Queries

@@ -2,7 +2,7 @@
 use Prim.Native.Nat.{ℕ, _<_, _≤_}
 use mathlib.Core.Path.{_≡_, refl, sym, ap, subst, _∙_}
 use mathlib.Core.Bool.{Bool, true, false, _&&_, not, true≢false}
-use mathlib.Core.Logic.{_⊎_, ⊎-elim}
+use mathlib.Core.Logic.{_⊎_, inl, inr, ⊎-elim}
 use mathlib.Core.List.{List, [], _∷_, _++_, map, List·Memᴰ, List·Memᴰ·head, List·Memᴰ·tail, List·Memᴰ·not-nil}
 use mathlib.Core.List.{List·Memᴰ·cases-cons, List·Memᴰ·append-cases, Memᴰ·append-left, Memᴰ·append-right, Memᴰ·cast}
 use native.Mathlib.Nat.{lt-of-lt-of-le}
@@ -55,6 +55,49 @@ extended x b other l = map (λ t. extend t x b) (keep (λ t. not (holdsOne other
 -- the terms of a decision by x, from the terms of its sides
 unfoldable pub decisionTerms : ℕ → List Term → List Term → List Term
 decisionTerms x a b = extended x false b a ++ (extended x true a b ++ leastOf (joins a b))
+
+-- ---- the members of joined lists
+pub joins-in : (us l : List Term) (r u t : Term) → List·Memᴰ r l → List·Memᴰ u us → T (not (conflict r u)) → t ≡ join r u
+    → List·Memᴰ t (joins l us)
+joins-in us [] r u t m n free e = absurd (List·Memᴰ·not-nil m)
+joins-in us (q ∷ l) r u t m n free e =
+    ⊎-elim
+    (λ (d : r ≡ q).
+    Memᴰ·append-left (joins l us)
+    (Memᴰ·cast (e ∙ ap (λ (z : Term). join z u) d)
+    (map-in (join q) (keep (λ u. not (conflict q u)) us) u
+    (keep-in (λ u. not (conflict q u)) us u n (subst (λ (z : Term). T (not (conflict z u))) d free)))))
+    (λ (k : List·Memᴰ r l). Memᴰ·append-right (joinsWith q us) (joins-in us l r u t k n free e))
+    (List·Memᴰ·cases-cons m)
+
+-- a term of the one list and one of the other, without a conflict, that join to t
+pub record JoinOf (l us : List Term) (t : Term) : Type 0 where
+  pub left : Term
+  pub right : Term
+  pub in-left : List·Memᴰ left l
+  pub in-right : List·Memᴰ right us
+  pub free : T (not (conflict left right))
+  pub is : t ≡ join left right
+
+pub joins-out : (us l : List Term) (t : Term) → List·Memᴰ t (joins l us) → JoinOf l us t
+joins-out us [] t m = absurd (List·Memᴰ·not-nil m)
+joins-out us (r ∷ l) t m = go (List·Memᴰ·append-cases (joinsWith r us) m) (joins-out us l t)
+  where
+    go : List·Memᴰ t (joinsWith r us) ⊎ List·Memᴰ t (joins l us) → (List·Memᴰ t (joins l us) → JoinOf l us t) → JoinOf (r ∷ l) us t
+    go (inl k) rest =
+        let (u, n, e) = map-out (join r) (keep (λ u. not (conflict r u)) us) t k in
+        let (n′, free) = keep-out (λ u. not (conflict r u)) us u n in
+        record { left = r; right = u; in-left = List·Memᴰ·head refl; in-right = n′; free = free; is = e }
+    go (inr k) rest =
+        let j : JoinOf l us t = rest k in
+        record {
+          left = j .left;
+          right = j .right;
+          in-left = List·Memᴰ·tail (j .in-left);
+          in-right = j .in-right;
+          free = j .free;
+          is = j .is;
+        }
 
 module _ (N : ℕ) (wide : N ≤ width) where
   -- ---- terms without a conflict join to a term
@@ -130,44 +173,24 @@ module _ (N : ℕ) (wide : N ≤ width) where
 
   -- ---- Proposition 3
   module _ (f g : ℕ → Bool) (a b : List Term) (la : Lists N f a) (lb : Lists N g b) where
-    joins-out : (l : List Term) → ((t : Term) → List·Memᴰ t l → Prime N f t) → (t : Term) → List·Memᴰ t (joins l b) → Joined N f g t
-    joins-out [] only t m = absurd (List·Memᴰ·not-nil m)
-    joins-out (r ∷ l) only t m =
-        ⊎-elim (λ (k : List·Memᴰ t (joinsWith r b)). here k)
-        (λ (k : List·Memᴰ t (joins l b)). joins-out l (λ u n. only u (List·Memᴰ·tail n)) t k)
-        (List·Memᴰ·append-cases (joinsWith r b) m)
-      where
-        here : List·Memᴰ t (joinsWith r b) → Joined N f g t
-        here k =
-            let (u, n, e) = map-out (join r) (keep (λ u. not (conflict r u)) b) t k in
-            let (n′, free) = keep-out (λ u. not (conflict r u)) b u n in
-            let pr : Prime N f r = only r (List·Memᴰ·head refl) in
-            let pu : Prime N g u = lb .only u n′ in
-            record {
-              left = r;
-              right = u;
-              left-prime = pr;
-              right-prime = pu;
-              isTerm = join-isTerm N r u (pr .isTerm) (pu .isTerm) (conflict-free r u (pr .isTerm) free);
-              is = e;
-            }
-
-    joins-in : (l : List Term) (r u t : Term) → List·Memᴰ r l → List·Memᴰ u b → T (not (conflict r u)) → t ≡ join r u
-        → List·Memᴰ t (joins l b)
-    joins-in [] r u t m n free e = absurd (List·Memᴰ·not-nil m)
-    joins-in (q ∷ l) r u t m n free e =
-        ⊎-elim
-        (λ (d : r ≡ q).
-        Memᴰ·append-left (joins l b)
-        (Memᴰ·cast (e ∙ ap (λ (z : Term). join z u) d)
-        (map-in (join q) (keep (λ u. not (conflict q u)) b) u
-        (keep-in (λ u. not (conflict q u)) b u n (subst (λ (z : Term). T (not (conflict z u))) d free)))))
-        (λ (k : List·Memᴰ r l). Memᴰ·append-right (joinsWith q b) (joins-in l r u t k n free e))
-        (List·Memᴰ·cases-cons m)
+    joined-out : (t : Term) → List·Memᴰ t (joins a b) → Joined N f g t
+    joined-out t m =
+        let j : JoinOf a b t = joins-out b a t m in
+        let pr : Prime N f (j .left) = la .only (j .left) (j .in-left) in
+        let pu : Prime N g (j .right) = lb .only (j .right) (j .in-right) in
+        record {
+          left = j .left;
+          right = j .right;
+          left-prime = pr;
+          right-prime = pu;
+          isTerm = join-isTerm N (j .left) (j .right) (pr .isTerm) (pu .isTerm)
+              (conflict-free (j .left) (j .right) (pr .isTerm) (j .free));
+          is = j .is;
+        }
 
     joined-mem : (t : Term) → Joined N f g t → List·Memᴰ t (joins a b)
     joined-mem t j =
-        joins-in a (j .left) (j .right) t (la .every (j .left) (j .left-prime)) (lb .every (j .right) (j .right-prime))
+        joins-in b a (j .left) (j .right) t (la .every (j .left) (j .left-prime)) (lb .every (j .right) (j .right-prime))
         (joined-free (j .left) (j .right) (j .isTerm)) (j .is)
 
     -- a joined term with none shorter inside has no other inside
@@ -185,7 +208,7 @@ module _ (N : ℕ) (wide : N ≤ width) where
     shortest : (t : Term) → Prime N (conj N f g) t → T (holdsShorter (joins a b) t) → ⊥
     shortest t c s =
         let (u, m, h) = any-e (λ u. inside u t && ltb (literals u) (literals t)) (joins a b) s in
-        let j : Joined N f g u = joins-out a (la .only) u m in
+        let j : Joined N f g u = joined-out u m in
         let i : Inside u t =
         inside-e N wide u t (joined-isTerm N f g u j) (and-l (inside u t) (ltb (literals u) (literals t)) h) in
         let l : literals u < literals t =
@@ -199,7 +222,7 @@ module _ (N : ℕ) (wide : N ≤ width) where
         record {
           only = λ t m.
               let (k, n) = keep-out (λ t. not (holdsShorter (joins a b) t)) (joins a b) t m in
-              let j : Joined N f g t = joins-out a (la .only) t k in
+              let j : Joined N f g t = joined-out t k in
               joined-prime N f g t j (no-shorter t j n);
           every = λ t c. keep-in (λ t. not (holdsShorter (joins a b) t)) (joins a b) t
               (joined-mem t (prime-joined N f g t c))
@@ -211,7 +234,7 @@ module _ (N : ℕ) (wide : N ≤ width) where
     joins-lists apart =
         record {
           only = λ t m.
-              let j : Joined N f g t = joins-out a (la .only) t m in
+              let j : Joined N f g t = joined-out t m in
               subst (Prime N (conj N f g)) (sym (j .is))
               (apart-prime N f g apart (j .left) (j .right) (j .left-prime) (j .right-prime));
           every = λ t c. joined-mem t (prime-joined N f g t c);

@@ -1,0 +1,215 @@
+// The terms of a decision and of a conjunction from the terms of their children, in order, each once.
+ghost use mathlib.Core.Path.{_≡_};
+ghost use mathlib.Core.Bool.{false};
+ghost use mathlib.Core.List.{[], _∷_};
+ghost use Prim.Native.Nat.{_≤_, _<_};
+ghost use lib.ListN.{length};
+ghost use Rattle.terms.specs.Lists.{keep};
+ghost use Rattle.lists.specs.Scans.{termsOf};
+ghost use Rattle.insertion.specs.Filled.{bySign};
+ghost use Rattle.builder.specs.Made.{joinsWith, extended, allowed, madeJoins, madeDecision, Added};
+use insertion::Kept;
+use terms::Term;
+
+// Adds t with the literal of x of the given sign, unless a term of the list o is inside t.
+fn add_extended(
+    positives: &mut [u64],
+    negatives: &mut [u64],
+    count: usize,
+    x: u32,
+    sign: bool,
+    op: &[u64],
+    on: &[u64],
+    t: Term,
+) -> Kept
+    requires { ⌜ (x < 64) × (count ≤ length (now positives)) × (length (now negatives) ≡ length (now positives)) ⌝ }
+    requires { ⌜ length (now on) ≡ length (now op) ⌝ }
+    ensures { λ r. ⌜ Added (extended x sign (termsOf (now (op .entry)) (now (on .entry))) (t ∷ []))
+        (bySign (now (positives .entry)) (now (negatives .entry))) count
+        (bySign (now (positives .exit)) (now (negatives .exit))) r ⌝ }
+{
+    if lists::holds_one(op, on, t) {
+        return Kept::Count(count);
+    }
+    insertion::insert(positives, negatives, count, terms::extend(t, x, sign))
+}
+
+// Adds the terms of the list l that have no term of the list o inside, each with the literal of x of the given sign.
+fn extend_all(
+    positives: &mut [u64],
+    negatives: &mut [u64],
+    start: usize,
+    x: u32,
+    sign: bool,
+    op: &[u64],
+    on: &[u64],
+    lp: &[u64],
+    ln: &[u64],
+) -> Kept
+    requires { ⌜ (x < 64) × (start ≤ length (now positives)) × (length (now negatives) ≡ length (now positives)) ⌝ }
+    requires { ⌜ (length (now on) ≡ length (now op)) × (length (now ln) ≡ length (now lp)) ⌝ }
+    ensures { λ r. ⌜ Added (extended x sign (termsOf (now (op .entry)) (now (on .entry))) (termsOf (now (lp .entry)) (now (ln .entry))))
+        (bySign (now (positives .entry)) (now (negatives .entry))) start
+        (bySign (now (positives .exit)) (now (negatives .exit))) r ⌝ }
+{
+    let mut count = start;
+    let mut k = 0;
+    while k < lp.len() {
+        let t = lists::term_at(lp, ln, k);
+        let Kept::Count(c) = add_extended(positives, negatives, count, x, sign, op, on, t) else {
+            return Kept::Full;
+        };
+        count = c;
+        k += 1;
+    }
+    Kept::Count(count)
+}
+
+// The joined term j is to be kept: a shorter join inside is looked for where only the least are asked for.
+fn is_allowed(least: bool, ap: &[u64], an: &[u64], bp: &[u64], bn: &[u64], j: Term) -> bool
+    requires { ⌜ (length (now an) ≡ length (now ap)) × (length (now bn) ≡ length (now bp)) ⌝ }
+    ensures { λ r. ⌜ r ≡ allowed least (termsOf (now (ap .entry)) (now (an .entry))) (termsOf (now (bp .entry)) (now (bn .entry))) j ⌝ }
+{
+    if least {
+        return !lists::holds_shorter(ap, an, bp, bn, j);
+    }
+    true
+}
+
+// Adds the join of t and u, if they have no conflict and it is to be kept.
+fn add_join(
+    positives: &mut [u64],
+    negatives: &mut [u64],
+    count: usize,
+    least: bool,
+    ap: &[u64],
+    an: &[u64],
+    bp: &[u64],
+    bn: &[u64],
+    t: Term,
+    u: Term,
+) -> Kept
+    requires { ⌜ (count ≤ length (now positives)) × (length (now negatives) ≡ length (now positives)) ⌝ }
+    requires { ⌜ (length (now an) ≡ length (now ap)) × (length (now bn) ≡ length (now bp)) ⌝ }
+    ensures { λ r. ⌜ Added
+        (keep (allowed least (termsOf (now (ap .entry)) (now (an .entry))) (termsOf (now (bp .entry)) (now (bn .entry))))
+        (joinsWith t (u ∷ [])))
+        (bySign (now (positives .entry)) (now (negatives .entry))) count
+        (bySign (now (positives .exit)) (now (negatives .exit))) r ⌝ }
+{
+    if terms::conflict(t, u) {
+        return Kept::Count(count);
+    }
+    let j = terms::join(t, u);
+    if is_allowed(least, ap, an, bp, bn, j) {
+        return insertion::insert(positives, negatives, count, j);
+    }
+    Kept::Count(count)
+}
+
+// Adds the joins of t with the terms of the list b that are to be kept.
+fn join_each(
+    positives: &mut [u64],
+    negatives: &mut [u64],
+    start: usize,
+    least: bool,
+    ap: &[u64],
+    an: &[u64],
+    bp: &[u64],
+    bn: &[u64],
+    t: Term,
+) -> Kept
+    requires { ⌜ (start ≤ length (now positives)) × (length (now negatives) ≡ length (now positives)) ⌝ }
+    requires { ⌜ (length (now an) ≡ length (now ap)) × (length (now bn) ≡ length (now bp)) ⌝ }
+    ensures { λ r. ⌜ Added
+        (keep (allowed least (termsOf (now (ap .entry)) (now (an .entry))) (termsOf (now (bp .entry)) (now (bn .entry))))
+        (joinsWith t (termsOf (now (bp .entry)) (now (bn .entry)))))
+        (bySign (now (positives .entry)) (now (negatives .entry))) start
+        (bySign (now (positives .exit)) (now (negatives .exit))) r ⌝ }
+{
+    let mut count = start;
+    let mut k = 0;
+    while k < bp.len() {
+        let u = lists::term_at(bp, bn, k);
+        let Kept::Count(c) = add_join(positives, negatives, count, least, ap, an, bp, bn, t, u)
+        else {
+            return Kept::Full;
+        };
+        count = c;
+        k += 1;
+    }
+    Kept::Count(count)
+}
+
+// Adds the joins of the terms of a with the terms of b, or only the least of them.
+fn join_all(
+    positives: &mut [u64],
+    negatives: &mut [u64],
+    start: usize,
+    least: bool,
+    ap: &[u64],
+    an: &[u64],
+    bp: &[u64],
+    bn: &[u64],
+) -> Kept
+    requires { ⌜ (start ≤ length (now positives)) × (length (now negatives) ≡ length (now positives)) ⌝ }
+    requires { ⌜ (length (now an) ≡ length (now ap)) × (length (now bn) ≡ length (now bp)) ⌝ }
+    ensures { λ r. ⌜ Added (madeJoins least (termsOf (now (ap .entry)) (now (an .entry))) (termsOf (now (bp .entry)) (now (bn .entry))))
+        (bySign (now (positives .entry)) (now (negatives .entry))) start
+        (bySign (now (positives .exit)) (now (negatives .exit))) r ⌝ }
+{
+    let mut count = start;
+    let mut k = 0;
+    while k < ap.len() {
+        let t = lists::term_at(ap, an, k);
+        let Kept::Count(c) = join_each(positives, negatives, count, least, ap, an, bp, bn, t) else {
+            return Kept::Full;
+        };
+        count = c;
+        k += 1;
+    }
+    Kept::Count(count)
+}
+
+// Makes the terms of a decision by x from those of its sides: a where x is no, b where it is yes.
+pub fn decision(
+    positives: &mut [u64],
+    negatives: &mut [u64],
+    x: u32,
+    ap: &[u64],
+    an: &[u64],
+    bp: &[u64],
+    bn: &[u64],
+) -> Kept
+    requires { ⌜ (x < 64) × (length (now negatives) ≡ length (now positives)) ⌝ }
+    requires { ⌜ (length (now an) ≡ length (now ap)) × (length (now bn) ≡ length (now bp)) ⌝ }
+    ensures { λ r. ⌜ Added (madeDecision x (termsOf (now (ap .entry)) (now (an .entry))) (termsOf (now (bp .entry)) (now (bn .entry))))
+        (bySign (now (positives .entry)) (now (negatives .entry))) 0
+        (bySign (now (positives .exit)) (now (negatives .exit))) r ⌝ }
+{
+    let Kept::Count(c) = extend_all(positives, negatives, 0, x, false, bp, bn, ap, an) else {
+        return Kept::Full;
+    };
+    let Kept::Count(d) = extend_all(positives, negatives, c, x, true, ap, an, bp, bn) else {
+        return Kept::Full;
+    };
+    join_all(positives, negatives, d, true, ap, an, bp, bn)
+}
+
+// Makes the terms of a conjunction from those of its children.
+pub fn conjunction(
+    positives: &mut [u64],
+    negatives: &mut [u64],
+    ap: &[u64],
+    an: &[u64],
+    bp: &[u64],
+    bn: &[u64],
+) -> Kept
+    requires { ⌜ length (now negatives) ≡ length (now positives) ⌝ }
+    requires { ⌜ (length (now an) ≡ length (now ap)) × (length (now bn) ≡ length (now bp)) ⌝ }
+    ensures { λ r. ⌜ Added (madeJoins false (termsOf (now (ap .entry)) (now (an .entry))) (termsOf (now (bp .entry)) (now (bn .entry))))
+        (bySign (now (positives .entry)) (now (negatives .entry))) 0
+        (bySign (now (positives .exit)) (now (negatives .exit))) r ⌝ }
+{
+    join_all(positives, negatives, 0, false, ap, an, bp, bn)
+}

@@ -1,0 +1,3 @@
+pub mod Inserted
+pub mod Carried
+pub mod Parts

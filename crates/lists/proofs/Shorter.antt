@@ -1,0 +1,95 @@
+-- The code's search for a shorter join, and that it finds one exactly if some join is inside the term and has fewer literals.
+use Prim.Native.Nat.{ℕ, _<_, _≤_}
+use mathlib.Core.Path.{_≡_, refl, ap, subst}
+use mathlib.Core.Bool.{Bool, _&&_, not}
+use mathlib.Core.Logic.{⊎-elim}
+use mathlib.Core.List.{List, List·Memᴰ}
+use native.Mathlib.Omega.{arith}
+use lib.Dec.{T, T-not, not-T, eqb, ltb, eqb→eq, eqb-refl, ltb→lt, nltb→le}
+use Rattle.masks.specs.Mask.{width}
+use Rattle.masks.proofs.Tests.{and-i, and-l, and-r, decide, same-test}
+use Rattle.terms.specs.Lists.{any}
+use Rattle.terms.specs.Term.{literals, join, inside}
+use Rattle.terms.specs.declared.Term.{Term}
+use Rattle.terms.proofs.Built.{joins, holdsShorter, joins-in, joins-out, conflict-free, joined-free, as-long, JoinOf}
+use Rattle.terms.proofs.Sorted.{any-i, any-e}
+use Rattle.terms.proofs.Terms.{Inside, inside-trans, join-l, join-r, join-least, term-ext, join-isTerm, join-within, inside-e}
+use Rattle.terms.proofs.Terms.{inside-i, IsTerm}
+use Rattle.lists.specs.Scans.{same, completes, shorterJoin}
+
+pub same-e : (t u : Term) → T (same t u) → t ≡ u
+unfolding same
+same-e t u h =
+    let p : t .positive ≡ u .positive =
+    eqb→eq (t .positive) (u .positive) (and-l (eqb (t .positive) (u .positive)) (eqb (t .negative) (u .negative)) h) in
+    let n : t .negative ≡ u .negative =
+    eqb→eq (t .negative) (u .negative) (and-r (eqb (t .positive) (u .positive)) (eqb (t .negative) (u .negative)) h) in
+    λ i. record { positive = p i; negative = n i }
+
+same-i : (t u : Term) → t ≡ u → T (same t u)
+unfolding same
+same-i t u e =
+    subst (λ (z : Term). T (eqb (t .positive) (z .positive) && eqb (t .negative) (z .negative))) e
+    (and-i (eqb (t .positive) (t .positive)) (eqb (t .negative) (t .negative)) (eqb-refl (t .positive)) (eqb-refl (t .negative)))
+
+-- the list is of terms over N variables
+abbrev pub Terms : ℕ → List Term → Type 0
+Terms N l = (t : Term) → List·Memᴰ t l → IsTerm N t
+
+module _ (N : ℕ) (wide : N ≤ width) where
+  -- a term inside t that is not t has fewer literals
+  fewer : (u t : Term) → IsTerm N u → IsTerm N t → Inside u t → T (not (same u t)) → T (ltb (literals u) (literals t))
+  fewer u t h k i n =
+      ⊎-elim (λ (l : T (ltb (literals u) (literals t))). l)
+      (λ (l : T (not (ltb (literals u) (literals t)))).
+      absurd
+      (T-not (same u t) n
+      (same-i u t (term-ext N u t h k i (as-long N wide u t k i (nltb→le (literals u) (literals t) l))))))
+      (decide (ltb (literals u) (literals t)))
+
+  fewer-not : (u t : Term) → T (ltb (literals u) (literals t)) → T (not (same u t))
+  fewer-not u t l =
+      not-T (same u t)
+      (λ s.
+      let e : literals u ≡ literals t = ap literals (same-e u t s) in
+      let k : literals u < literals t = ltb→lt (literals u) (literals t) l in
+      omega arith)
+
+  module _ (l k : List Term) (hl : Terms N l) (hk : Terms N k) (t : Term) (w : IsTerm N t) where
+    abbrev test : Term → Bool
+    test u = inside u t && ltb (literals u) (literals t)
+
+    found : T (shorterJoin l k t) → T (holdsShorter (joins l k) t)
+    unfolding shorterJoin completes
+    found s =
+        let (a, ma, pa) = any-e (λ a. inside a t && any (completes t a) k) l s in
+        let (b, mb, pb) = any-e (completes t a) k (and-r (inside a t) (any (completes t a) k) pa) in
+        let ia : Inside a t = inside-e N wide a t (hl a ma) (and-l (inside a t) (any (completes t a) k) pa) in
+        let ib : Inside b t = inside-e N wide b t (hk b mb) (and-l (inside b t) (not (same (join a b) t)) pb) in
+        let j : IsTerm N (join a b) = join-within N a b t (hl a ma) (hk b mb) w ia ib in
+        let i : Inside (join a b) t = join-least a b t ia ib in
+        any-i test (joins l k) (join a b) (joins-in k l a b (join a b) ma mb (joined-free N wide a b j) refl)
+        (and-i (inside (join a b) t) (ltb (literals (join a b)) (literals t)) (inside-i N (join a b) t i)
+        (fewer (join a b) t j w i (and-r (inside b t) (not (same (join a b) t)) pb)))
+
+    finds : T (holdsShorter (joins l k) t) → T (shorterJoin l k t)
+    unfolding shorterJoin completes
+    finds s =
+        let (u, m, p) = any-e test (joins l k) s in
+        let o : JoinOf l k u = joins-out k l u m in
+        let a : Term = o .left in
+        let b : Term = o .right in
+        let j : IsTerm N (join a b) =
+        join-isTerm N a b (hl a (o .in-left)) (hk b (o .in-right)) (conflict-free N wide a b (hl a (o .in-left)) (o .free)) in
+        let p′ : T (test (join a b)) = subst (λ (z : Term). T (test z)) (o .is) p in
+        let i : Inside (join a b) t =
+        inside-e N wide (join a b) t j (and-l (inside (join a b) t) (ltb (literals (join a b)) (literals t)) p′) in
+        let fits : (v : Term) → Inside v (join a b) → T (inside v t) = λ v q. inside-i N v t (inside-trans v (join a b) t q i) in
+        any-i (λ a. inside a t && any (completes t a) k) l a (o .in-left)
+        (and-i (inside a t) (any (completes t a) k) (fits a (join-l a b))
+        (any-i (completes t a) k b (o .in-right)
+        (and-i (inside b t) (not (same (join a b) t)) (fits b (join-r a b))
+        (fewer-not (join a b) t (and-r (inside (join a b) t) (ltb (literals (join a b)) (literals t)) p′)))))
+
+    pub shorter-joins : shorterJoin l k t ≡ holdsShorter (joins l k) t
+    shorter-joins = same-test (shorterJoin l k t) (holdsShorter (joins l k) t) found finds

@@ -1,0 +1,31 @@
+-- Lists of terms as the code holds them, and the searches in them. No public contract rests on these.
+use Prim.Native.Nat.{ℕ}
+use mathlib.Core.Bool.{Bool, _&&_, not}
+use mathlib.Core.List.{List, [], _∷_}
+use lib.Dec.{eqb}
+use lib.ListN.{getD}
+use Rattle.terms.specs.Lists.{any}
+use Rattle.terms.specs.Term.{term, join, inside}
+use Rattle.terms.specs.declared.Term.{Term}
+
+-- the terms with these positive masks and these negative masks
+abbrev pub termsOf : List ℕ → List ℕ → List Term
+termsOf [] ns = []
+termsOf (p ∷ ps) [] = []
+termsOf (p ∷ ps) (n ∷ ns) = term p n ∷ termsOf ps ns
+
+-- term k of them
+abbrev pub termAt : List ℕ → List ℕ → ℕ → Term
+termAt ps ns k = term (getD ps k 0) (getD ns k 0)
+
+-- the masks are the same
+unfoldable pub same : Term → Term → Bool
+same t u = eqb (t .positive) (u .positive) && eqb (t .negative) (u .negative)
+
+-- b is inside t, and its join with a is not t
+unfoldable pub completes : Term → Term → Term → Bool
+completes t a b = inside b t && not (same (join a b) t)
+
+-- some term of the one list and some of the other are inside t, and their join is not t
+unfoldable pub shorterJoin : List Term → List Term → Term → Bool
+shorterJoin l k t = any (λ a. inside a t && any (completes t a) k) l

@@ -1,0 +1,73 @@
+// Lists of terms: the positive masks in one slice, the negative masks in another of the same length.
+ghost use mathlib.Core.Path.{_≡_};
+ghost use Prim.Native.Nat.{_<_};
+ghost use lib.ListN.{length};
+ghost use Rattle.terms.specs.Lists.{any};
+ghost use Rattle.terms.specs.Term.{inside};
+ghost use Rattle.lists.specs.Scans.{termsOf, termAt, same, completes, shorterJoin};
+use terms::Term;
+
+// Term k of the list.
+pub fn term_at(positives: &[u64], negatives: &[u64], k: usize) -> Term
+    requires { ⌜ (k < length (now positives)) × (k < length (now negatives)) ⌝ }
+    ensures { λ r. ⌜ r ≡ termAt (now (positives .entry)) (now (negatives .entry)) k ⌝ }
+{
+    Term {
+        positive: positives[k],
+        negative: negatives[k],
+    }
+}
+
+// The masks are the same.
+pub fn is_same(t: Term, u: Term) -> bool
+    ensures { λ r. ⌜ r ≡ same t u ⌝ }
+{
+    (t.positive == u.positive) & (t.negative == u.negative)
+}
+
+// Some term of the list is inside t.
+pub fn holds_one(positives: &[u64], negatives: &[u64], t: Term) -> bool
+    requires { ⌜ length (now negatives) ≡ length (now positives) ⌝ }
+    ensures { λ r. ⌜ r ≡ any (λ u. inside u t) (termsOf (now (positives .entry)) (now (negatives .entry))) ⌝ }
+{
+    let mut k = 0;
+    while k < positives.len() {
+        if terms::inside(term_at(positives, negatives, k), t) {
+            return true;
+        }
+        k += 1;
+    }
+    false
+}
+
+// b is inside t, and its join with a, which is inside t too, lacks a literal of t.
+fn is_short(t: Term, a: Term, b: Term) -> bool
+    ensures { λ r. ⌜ r ≡ completes t a b ⌝ }
+{
+    terms::inside(b, t) & !is_same(terms::join(a, b), t)
+}
+
+// Some term of the list a and some of the list b are inside t, and their join lacks a literal of t.
+pub fn holds_shorter(ap: &[u64], an: &[u64], bp: &[u64], bn: &[u64], t: Term) -> bool
+    requires { ⌜ (length (now an) ≡ length (now ap)) × (length (now bn) ≡ length (now bp)) ⌝ }
+    ensures { λ r. ⌜ r ≡ shorterJoin (termsOf (now (ap .entry)) (now (an .entry))) (termsOf (now (bp .entry)) (now (bn .entry))) t ⌝ }
+{
+    let mut found = false;
+    let mut k = 0;
+    'pairs: while k < ap.len() {
+        let a = term_at(ap, an, k);
+        if terms::inside(a, t) {
+            let mut l = 0;
+            while l < bp.len() {
+                let b = term_at(bp, bn, l);
+                if is_short(t, a, b) {
+                    found = true;
+                    break 'pairs;
+                }
+                l += 1;
+            }
+        }
+        k += 1;
+    }
+    found
+}

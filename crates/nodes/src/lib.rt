@@ -1,0 +1,191 @@
+// One node: its terms made in its own part of the buffers, from the terms of its children in theirs.
+ghost use mathlib.Core.Path.{_≡_};
+ghost use mathlib.Core.Bool.{cond};
+ghost use mathlib.Core.List.{[], _∷_};
+ghost use Prim.Native.Nat.{ℕ, _+_, _*_, _≤_, _<_};
+ghost use lib.ListN.{length, take, drop, getD};
+ghost use Rattle.terms.specs.Term.{empty, extend};
+ghost use Rattle.circuits.specs.Gate.{gateNode};
+ghost use Rattle.circuits.specs.Node.{nodeAt, nodeWords};
+ghost use Rattle.lists.specs.Scans.{termsOf};
+ghost use Rattle.insertion.specs.Filled.{bySign, Filled};
+ghost use Rattle.nodes.specs.Part.{Named, nodeMade, termsFrom, PartFilled, childAt, nodeTermsFrom, Ready};
+use circuits::Gate;
+use insertion::Kept;
+use terms::Term;
+
+// The children of a node. A leaf has none: 0 stands for them, and nothing is made of what is there.
+pub struct Children {
+    pub left: usize,
+    pub right: usize,
+}
+
+fn children_of(gate: Gate) -> Children
+    ensures { λ r. ⌜ (r .left ≡ childAt (gateNode gate) 0) × (r .right ≡ childAt (gateNode gate) 1) ⌝ }
+{
+    match gate {
+        Gate::Constant(_) => Children { left: 0, right: 0 },
+        Gate::Literal(_, _) => Children { left: 0, right: 0 },
+        Gate::Decision(_, a, b) => Children {
+            left: a as usize,
+            right: b as usize,
+        },
+        Gate::Conjunction(a, b) => Children {
+            left: a as usize,
+            right: b as usize,
+        },
+        Gate::Unknown => Children { left: 0, right: 0 },
+    }
+}
+
+// Makes the terms of a constant: the term with no literal, or none.
+fn constant(positives: &mut [u64], negatives: &mut [u64], value: bool) -> Kept
+    requires { ⌜ length (now negatives) ≡ length (now positives) ⌝ }
+    ensures { λ r. ⌜ Filled (cond value (empty ∷ []) []) (bySign (now (positives .entry)) (now (negatives .entry)))
+        (bySign (now (positives .exit)) (now (negatives .exit))) r ⌝ }
+{
+    let empty = Term {
+        positive: 0,
+        negative: 0,
+    };
+    if value {
+        return insertion::insert(positives, negatives, 0, empty);
+    }
+    Kept::Count(0)
+}
+
+// Makes the term of a literal.
+fn literal(positives: &mut [u64], negatives: &mut [u64], sign: bool, x: u32) -> Kept
+    requires { ⌜ (x < 64) × (length (now negatives) ≡ length (now positives)) ⌝ }
+    ensures { λ r. ⌜ Filled (extend empty x sign ∷ []) (bySign (now (positives .entry)) (now (negatives .entry)))
+        (bySign (now (positives .exit)) (now (negatives .exit))) r ⌝ }
+{
+    let empty = Term {
+        positive: 0,
+        negative: 0,
+    };
+    insertion::insert(positives, negatives, 0, terms::extend(empty, x, sign))
+}
+
+// Makes the terms of a node in the two slices, from the terms a and b of its children.
+fn make(
+    positives: &mut [u64],
+    negatives: &mut [u64],
+    gate: Gate,
+    ap: &[u64],
+    an: &[u64],
+    bp: &[u64],
+    bn: &[u64],
+) -> Kept
+    requires { ⌜ Named (gateNode gate) × (length (now negatives) ≡ length (now positives)) ⌝ }
+    requires { ⌜ (length (now an) ≡ length (now ap)) × (length (now bn) ≡ length (now bp)) ⌝ }
+    ensures { λ r. ⌜ Filled
+        (nodeMade (gateNode gate) (termsOf (now (ap .entry)) (now (an .entry))) (termsOf (now (bp .entry)) (now (bn .entry))))
+        (bySign (now (positives .entry)) (now (negatives .entry)))
+        (bySign (now (positives .exit)) (now (negatives .exit))) r ⌝ }
+{
+    match gate {
+        Gate::Constant(value) => constant(positives, negatives, value),
+        Gate::Literal(sign, x) => literal(positives, negatives, sign, x),
+        Gate::Decision(x, _, _) => builder::decision(positives, negatives, x, ap, an, bp, bn),
+        Gate::Conjunction(_, _) => builder::conjunction(positives, negatives, ap, an, bp, bn),
+        Gate::Unknown => Kept::Count(0),
+    }
+}
+
+// Copies count entries from `at` on to the front of a buffer.
+fn copy(to: &mut [u64], from: &[u64], at: usize, count: usize)
+    requires { ⌜ (at + count ≤ length (now from)) × (count ≤ length (now to)) ⌝ }
+    ensures { λ _. ⌜ take count (now (to .exit)) ≡ take count (drop at (now (from .entry))) ⌝ }
+{
+    let mut i = 0;
+    while i < count {
+        to[i] = from[at + i];
+        i += 1;
+    }
+}
+
+// Makes the terms of a node in the part of capacity entries from `at` on; its children's terms stand from a and from b on.
+fn fill_part(
+    positives: &mut [u64],
+    negatives: &mut [u64],
+    capacity: usize,
+    at: usize,
+    gate: Gate,
+    a: usize,
+    ca: usize,
+    b: usize,
+    cb: usize,
+) -> Kept
+    requires { ⌜ Named (gateNode gate) × (capacity ≤ 4096) × (ca ≤ capacity) × (cb ≤ capacity) ⌝ }
+    requires { ⌜ (a + capacity ≤ length (now positives)) × (b + capacity ≤ length (now positives))
+        × (at + capacity ≤ length (now positives)) ⌝ }
+    requires { ⌜ length (now negatives) ≡ length (now positives) ⌝ }
+    ensures { λ r. ⌜ PartFilled (nodeMade (gateNode gate) (termsFrom (bySign (now (positives .entry)) (now (negatives .entry))) a ca)
+        (termsFrom (bySign (now (positives .entry)) (now (negatives .entry))) b cb)) at capacity
+        (bySign (now (positives .entry)) (now (negatives .entry)))
+        (bySign (now (positives .exit)) (now (negatives .exit))) r ⌝ }
+{
+    let mut ap = [0u64; 4096];
+    let mut an = [0u64; 4096];
+    let mut bp = [0u64; 4096];
+    let mut bn = [0u64; 4096];
+    copy(&mut ap, positives, a, ca);
+    copy(&mut an, negatives, a, ca);
+    copy(&mut bp, positives, b, cb);
+    copy(&mut bn, negatives, b, cb);
+    let end = at + capacity;
+    make(
+        &mut positives[at..end],
+        &mut negatives[at..end],
+        gate,
+        &ap[..ca],
+        &an[..ca],
+        &bp[..cb],
+        &bn[..cb],
+    )
+}
+
+// Entry k, as an index.
+fn count_at(counts: &[u32], k: usize) -> usize
+    requires { ⌜ k < length (now counts) ⌝ }
+    ensures { λ r. ⌜ r ≡ getD (now (counts .entry)) k 0 ⌝ }
+{
+    counts[k] as usize
+}
+
+// Makes the terms of node i in its part of the buffers.
+pub fn fill_node(
+    positives: &mut [u64],
+    negatives: &mut [u64],
+    counts: &[u32],
+    words: &[u32],
+    i: usize,
+    capacity: usize,
+) -> Kept
+    requires { ⌜ (i < 1024) × (capacity ≤ 4096) × (nodeWords * i + nodeWords ≤ length (now words)) × (i < length (now counts)) ⌝ }
+    requires { ⌜ Ready i (nodeAt (now words) i) × ((k : ℕ) → k ≤ i → getD (now counts) k 0 ≤ capacity) ⌝ }
+    requires { ⌜ (i * capacity + capacity ≤ length (now positives)) × (length (now negatives) ≡ length (now positives)) ⌝ }
+    ensures { λ r. ⌜ PartFilled (nodeTermsFrom (nodeAt (now (words .entry)) i) capacity (now (counts .entry))
+        (bySign (now (positives .entry)) (now (negatives .entry)))) (i * capacity) capacity
+        (bySign (now (positives .entry)) (now (negatives .entry)))
+        (bySign (now (positives .exit)) (now (negatives .exit))) r ⌝ }
+{
+    let gate = circuits::gate_at(words, i);
+    let below = children_of(gate);
+    let a = below.left;
+    let b = below.right;
+    let ca = count_at(counts, a);
+    let cb = count_at(counts, b);
+    fill_part(
+        positives,
+        negatives,
+        capacity,
+        i * capacity,
+        gate,
+        a * capacity,
+        ca,
+        b * capacity,
+        cb,
+    )
+}

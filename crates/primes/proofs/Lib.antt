@@ -1,0 +1,5 @@
+pub mod Zeros
+pub mod Table
+pub mod Bounds
+pub mod Answers
+pub mod Demand

@@ -1,0 +1,60 @@
+-- `primes::zero_counts` meets its contract. The loop's invariant: the first i entries are 0, the others as they were.
+use Prim.Native.Nat.{_-_, _≤_}
+use mathlib.Core.Path.{_≡_}
+use mathlib.Core.List.{_++_}
+use native.Mathlib.Omega.{arith}
+use lib.ListN.{length, drop, length-set, replicate}
+use borrow.Author.Needs.{needs}
+use Rattle.primes.proofs.Zeros.{zero-more, zero-all}
+use Rattle.primes.proofs.zero_counts.Statement.{statement}
+use Rattle.primes.proofs.zero_counts.Tie as tie
+
+abbrev Inv-loop : tie.InvT-loop
+Inv-loop d i₀ s i = (i ≤ length d) × (s ≡ replicate i 0 ++ drop i d) × (length s ≡ length d)
+
+abbrev μ-loop : tie.MeasureT-loop
+μ-loop d i₀ s i = length d - i
+
+loop-holds : tie.Need-loop-holds Inv-loop μ-loop
+loop-holds c = search needs
+
+mul-counts : tie.Need-mul-counts Inv-loop μ-loop
+mul-counts c = search needs
+
+slice-write-counts : tie.Need-slice-write-counts Inv-loop μ-loop
+slice-write-counts c = search needs
+
+add-i : tie.Need-add-i Inv-loop μ-loop
+add-i c = search needs
+
+loop-less : tie.Need-loop-less Inv-loop μ-loop
+loop-less c = search needs
+
+loop-again : tie.Need-loop-again Inv-loop μ-loop
+loop-again c =
+    let l = c .before .loop in
+    let d = c .before .before .args .counts .now in
+    (omega arith, zero-more (l .i) (l .counts) d (omega arith) (l .inv .1), simp length-set (l .inv .2))
+
+same-length : tie.Need-same-length Inv-loop μ-loop
+same-length c = search needs
+
+returns : tie.Need-returns Inv-loop μ-loop
+returns c =
+    let l = c .before .loop in
+    zero-all (l .i) (l .counts) (c .before .before .args .counts .now) (omega arith) (omega arith) (l .inv .1)
+
+pub zero-counts-spec : {M : Type 1} → statement M
+zero-counts-spec =
+    tie.close
+    (tie.spec
+    Inv-loop
+    μ-loop
+    loop-holds
+    mul-counts
+    slice-write-counts
+    add-i
+    loop-less
+    loop-again
+    same-length
+    returns)

@@ -1,0 +1,194 @@
+// The prime implicants of every node of a circuit, listed in lent buffers; and the part of a buffer that holds one node's.
+ghost use mathlib.Core.Path.{_≡_};
+ghost use Prim.Native.Nat.{_*_, _≤_};
+ghost use lib.ListN.{length, replicate};
+ghost use Rattle.circuits.specs.Check.{check, accepted};
+ghost use Rattle.insertion.specs.Filled.{bySign};
+ghost use Rattle.primes.specs.Exact.{Tried, Exact};
+ghost use Rattle.primes.specs.Listing.{ListResult, suffices, viewed};
+use circuits::Refusal;
+use insertion::Kept;
+use queries::Checked;
+
+// What a listing answers; specs/Listing.antt has the papers' numbers.
+pub enum Listing {
+    Listed,
+    Refused(Refusal),
+}
+
+// The part of the buffer that holds the first count entries of the node; the empty part for arguments out of range.
+pub fn view(buffer: &[u64], capacity: u32, node: u32, count: u32) -> &[u64]
+    ensures { λ r. ⌜ now r ≡ viewed (now (buffer .entry)) capacity node count ⌝ }
+{
+    if 1023 < node {
+        return &buffer[0..0];
+    }
+    if 4096 < capacity {
+        return &buffer[0..0];
+    }
+    if capacity < count {
+        return &buffer[0..0];
+    }
+    let start = (node as usize) * (capacity as usize);
+    let end = start + (count as usize);
+    if buffer.len() < end {
+        return &buffer[0..0];
+    }
+    &buffer[start..end]
+}
+
+fn zero(buffer: &mut [u64])
+    ensures { λ _. ⌜ now (buffer .exit) ≡ replicate (length (now (buffer .entry))) 0 ⌝ }
+{
+    let mut i = 0;
+    while i < buffer.len() {
+        buffer[i] = 0;
+        i += 1;
+    }
+}
+
+fn zero_counts(counts: &mut [u32])
+    ensures { λ _. ⌜ now (counts .exit) ≡ replicate (length (now (counts .entry))) 0 ⌝ }
+{
+    let mut i = 0;
+    while i < counts.len() {
+        counts[i] = 0;
+        i += 1;
+    }
+}
+
+fn clear(positives: &mut [u64], negatives: &mut [u64], counts: &mut [u32])
+    ensures { λ _. ⌜ (now (positives .exit) ≡ replicate (length (now (positives .entry))) 0)
+        × (now (negatives .exit) ≡ replicate (length (now (negatives .entry))) 0)
+        × (now (counts .exit) ≡ replicate (length (now (counts .entry))) 0) ⌝ }
+{
+    zero(positives);
+    zero(negatives);
+    zero_counts(counts);
+}
+
+// Fills the nodes' parts of buffers of zeros, the lowest node first; false where a node has more terms than the capacity.
+// `variables` is there for the contract.
+fn fill_all(
+    positives: &mut [u64],
+    negatives: &mut [u64],
+    counts: &mut [u32],
+    words: &[u32],
+    variables: u32,
+    n: usize,
+    capacity: usize,
+) -> bool
+    requires { ⌜ (check variables n (now words) ≡ accepted) × (capacity ≤ 4096) × (now counts ≡ replicate n 0) ⌝ }
+    requires { ⌜ (now positives ≡ replicate (n * capacity) 0) × (now negatives ≡ replicate (n * capacity) 0) ⌝ }
+    ensures { λ r. ⌜ Tried variables n (now (words .entry)) capacity (bySign (now (positives .exit)) (now (negatives .exit)))
+        (now (counts .exit)) r ⌝ }
+{
+    let mut i = 0;
+    while i < n {
+        let Kept::Count(c) = nodes::fill_node(positives, negatives, counts, words, i, capacity)
+        else {
+            return false;
+        };
+        counts[i] = c as u32;
+        i += 1;
+    }
+    true
+}
+
+// Lists in buffers of just the needed length, and zeroes them where the circuit has more prime implicants than the capacity.
+fn list_exact(
+    positives: &mut [u64],
+    negatives: &mut [u64],
+    counts: &mut [u32],
+    words: &[u32],
+    variables: u32,
+    n: usize,
+    capacity: usize,
+) -> bool
+    requires { ⌜ (check variables n (now words) ≡ accepted) × (capacity ≤ 4096) × (length (now counts) ≡ n) ⌝ }
+    requires { ⌜ (length (now positives) ≡ n * capacity) × (length (now negatives) ≡ n * capacity) ⌝ }
+    ensures { λ r. ⌜ Exact variables n (now (words .entry)) capacity (bySign (now (positives .exit)) (now (negatives .exit)))
+        (now (counts .exit)) r ⌝ }
+{
+    clear(positives, negatives, counts);
+    if fill_all(positives, negatives, counts, words, variables, n, capacity) {
+        return true;
+    }
+    clear(positives, negatives, counts);
+    false
+}
+
+// The capacity is at most 4,096, and the buffers are large enough for it: not 41.
+fn is_enough(
+    positives: &[u64],
+    negatives: &[u64],
+    counts: &[u32],
+    n: usize,
+    capacity: usize,
+) -> bool
+    requires { ⌜ n ≤ 1024 ⌝ }
+    ensures { λ r. ⌜ r ≡ suffices n capacity (now (positives .entry)) (now (negatives .entry)) (now (counts .entry)) ⌝ }
+{
+    if 4096 < capacity {
+        return false;
+    }
+    let total = n * capacity;
+    (total <= positives.len()) & (total <= negatives.len()) & (n <= counts.len())
+}
+
+// Lists the prime implicants of an accepted circuit's nodes: 41 and 42.
+fn list_accepted(
+    positives: &mut [u64],
+    negatives: &mut [u64],
+    counts: &mut [u32],
+    words: &[u32],
+    variables: u32,
+    n: usize,
+    capacity: usize,
+) -> Listing
+    requires { ⌜ check variables n (now words) ≡ accepted ⌝ }
+    ensures { λ r. ⌜ ListResult variables n (now (words .entry)) capacity
+        (now (positives .entry)) (now (negatives .entry)) (now (counts .entry))
+        (now (positives .exit)) (now (negatives .exit)) (now (counts .exit)) r ⌝ }
+{
+    if !is_enough(positives, negatives, counts, n, capacity) {
+        return Listing::Refused(Refusal::Buffers);
+    }
+    let total = n * capacity;
+    if list_exact(
+        &mut positives[..total],
+        &mut negatives[..total],
+        &mut counts[..n],
+        words,
+        variables,
+        n,
+        capacity,
+    ) {
+        return Listing::Listed;
+    }
+    Listing::Refused(Refusal::Capacity)
+}
+
+// Lists the prime implicants of every node: those of node i from entry i × capacity on, and their number at entry i of the counts.
+pub fn list(
+    positives: &mut [u64],
+    negatives: &mut [u64],
+    counts: &mut [u32],
+    words: &[u32],
+    variables: u32,
+    nodes: u32,
+    capacity: u32,
+) -> Listing
+    ensures { λ r. ⌜ ListResult variables nodes (now (words .entry)) capacity
+        (now (positives .entry)) (now (negatives .entry)) (now (counts .entry))
+        (now (positives .exit)) (now (negatives .exit)) (now (counts .exit)) r ⌝ }
+{
+    match queries::check(words, variables, nodes) {
+        Checked::Refused(refusal) => Listing::Refused(refusal),
+        Checked::Accepted => {
+            let n = nodes as usize;
+            let size = capacity as usize;
+            list_accepted(positives, negatives, counts, words, variables, n, size)
+        }
+    }
+}

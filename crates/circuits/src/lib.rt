@@ -4,6 +4,7 @@ ghost use Prim.Native.Nat.{_+_, _*_, _≤_, _<_};
 ghost use lib.ListN.{length};
 ghost use Rattle.circuits.specs.Node.{nodeAt, nodeWords};
 ghost use Rattle.circuits.specs.Gate.{gateNode};
+ghost use Rattle.circuits.specs.Outcome.{numberOf, nodeOf};
 
 pub mod table;
 
@@ -29,6 +30,42 @@ pub enum Refusal {
     Buffers,
     // more prime implicants than the capacity
     Capacity,
+}
+
+// The paper's number of a refusal.
+pub fn number_of(why: Refusal) -> u32
+    ensures { λ r. ⌜ r ≡ numberOf why ⌝ }
+{
+    match why {
+        Refusal::Range => 21,
+        Refusal::Malformed(_) => 22,
+        Refusal::Parentless(_) => 23,
+        Refusal::Undecomposable(_) => 24,
+        Refusal::Unreduced(_) => 25,
+        Refusal::Assignment => 31,
+        Refusal::NotTerm => 32,
+        Refusal::Unsatisfied => 33,
+        Refusal::Buffers => 41,
+        Refusal::Capacity => 42,
+    }
+}
+
+// The node that a refusal names; 0 where it names none.
+pub fn node_of(why: Refusal) -> u32
+    ensures { λ r. ⌜ r ≡ nodeOf why ⌝ }
+{
+    match why {
+        Refusal::Malformed(i) => i,
+        Refusal::Parentless(i) => i,
+        Refusal::Undecomposable(i) => i,
+        Refusal::Unreduced(i) => i,
+        Refusal::Range => 0,
+        Refusal::Assignment => 0,
+        Refusal::NotTerm => 0,
+        Refusal::Unsatisfied => 0,
+        Refusal::Buffers => 0,
+        Refusal::Capacity => 0,
+    }
 }
 
 // A node: its kind, with the words that the kind uses.

@@ -1,4 +1,6 @@
 // The answers of the operations on text.
+ghost use mathlib.Core.Path.{_≡_};
+ghost use Rattle.text.specs.Answers.{faultNumber};
 
 // Why a circuit text is refused.
 pub enum Fault {
@@ -14,6 +16,20 @@ pub enum Fault {
     Depth,
     // 15: no room for the node
     Capacity,
+}
+
+// The paper's number.
+pub fn fault_number(fault: Fault) -> u32
+    ensures { λ r. ⌜ r ≡ faultNumber fault ⌝ }
+{
+    match fault {
+        Fault::Length => 10,
+        Fault::Shape => 11,
+        Fault::Range => 12,
+        Fault::Reference => 13,
+        Fault::Depth => 14,
+        Fault::Capacity => 15,
+    }
 }
 
 pub enum Reading {

@@ -40,10 +40,10 @@ pub fn view(buffer: &[u64], capacity: u32, node: u32, count: u32) -> &[u64]
 fn zero(buffer: &mut [u64])
     ensures { λ _. ⌜ now (buffer .exit) ≡ replicate (length (now (buffer .entry))) 0 ⌝ }
 {
-    let mut i = 0;
-    while i < buffer.len() {
-        buffer[i] = 0;
-        i += 1;
+    let mut k = 0;
+    while k < buffer.len() {
+        buffer[k] = 0;
+        k += 1;
     }
 }
 

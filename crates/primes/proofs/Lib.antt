@@ -1,4 +1,3 @@
-pub mod Zeros
 pub mod Table
 pub mod Bounds
 pub mod Answers

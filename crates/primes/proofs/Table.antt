@@ -20,7 +20,7 @@ use Rattle.insertion.proofs.Parts.{terms-masks, length-masks}
 use Rattle.nodes.specs.Part.{termsFrom, laidAt}
 use Rattle.primes.specs.Exact.{Tried}
 use Rattle.primes.specs.Listing.{nodePrimes, padded, listedMasks, listedCounts, exceeds}
-use Rattle.primes.proofs.Zeros.{take-zeros, drop-zeros, zero-at}
+use Rattle.buffers.proofs.Zeros.{take-zeros, drop-zeros, zero-at}
 
 flatMap-append : (f : ℕ → List ℕ) (l k : List ℕ) → flatMap f (l ++ k) ≡ flatMap f l ++ flatMap f k
 unfolding flatMap

@@ -6,6 +6,8 @@ ghost use Rattle.circuits.specs.Check.{check, accepted};
 ghost use Rattle.insertion.specs.Filled.{bySign};
 ghost use Rattle.primes.specs.Exact.{Tried, Exact};
 ghost use Rattle.primes.specs.Listing.{ListResult, suffices, viewed};
+use buffers::zero_masks;
+use buffers::zero_words;
 use circuits::Refusal;
 use insertion::Kept;
 use queries::Checked;
@@ -37,34 +39,14 @@ pub fn view(buffer: &[u64], capacity: u32, node: u32, count: u32) -> &[u64]
     &buffer[start..end]
 }
 
-fn zero(buffer: &mut [u64])
-    ensures { λ _. ⌜ now (buffer .exit) ≡ replicate (length (now (buffer .entry))) 0 ⌝ }
-{
-    let mut k = 0;
-    while k < buffer.len() {
-        buffer[k] = 0;
-        k += 1;
-    }
-}
-
-fn zero_counts(counts: &mut [u32])
-    ensures { λ _. ⌜ now (counts .exit) ≡ replicate (length (now (counts .entry))) 0 ⌝ }
-{
-    let mut i = 0;
-    while i < counts.len() {
-        counts[i] = 0;
-        i += 1;
-    }
-}
-
 fn clear(positives: &mut [u64], negatives: &mut [u64], counts: &mut [u32])
     ensures { λ _. ⌜ (now (positives .exit) ≡ replicate (length (now (positives .entry))) 0)
         × (now (negatives .exit) ≡ replicate (length (now (negatives .entry))) 0)
         × (now (counts .exit) ≡ replicate (length (now (counts .entry))) 0) ⌝ }
 {
-    zero(positives);
-    zero(negatives);
-    zero_counts(counts);
+    zero_masks(positives);
+    zero_masks(negatives);
+    zero_words(counts);
 }
 
 // Fills the nodes' parts of buffers of zeros, the lowest node first; false where a node has more terms than the capacity.

@@ -8,6 +8,7 @@ use native.Mathlib.Decide.{decLt}
 use lib.ListN.{length, drop, replicate, length-replicate}
 use lib.Seq.{sets, sets-eq}
 use borrow.Author.Tests.{lt-ltb, le-ltb}
+use Rattle.buffers.proofs.Zeros.{drop-zeros}
 use Rattle.masks.specs.Mask.{within}
 use Rattle.terms.specs.Term.{variables}
 use Rattle.circuits.specs.Outcome.{Outcome, answered, refused}
@@ -38,11 +39,6 @@ pub record Tells (s : List ℕ) (m N n : ℕ) (words : List ℕ) : Type 0 where
   pub variables : tree .variables ≡ N
   pub nodes : compile tree .nodes ≡ n
   pub table : compile tree .words ++ replicate (m - 4 * n) 0 ≡ words
-
-drop-zeros : (k n : ℕ) → drop k (replicate {A = ℕ} n 0) ≡ replicate (n - k) 0
-drop-zeros zero n = let e : n - zero ≡ n = omega arith in rw e
-drop-zeros (suc k) zero = let e : zero - suc k ≡ 0 = omega arith in rw e
-drop-zeros (suc k) (suc n) = let e : suc n - suc k ≡ n - k = omega arith in rw e (drop-zeros k n)
 
 room-words : (m : ℕ) → 4 * roomOf m ≤ m
 room-words m = by (decLt (m / 4) 1024)

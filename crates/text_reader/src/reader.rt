@@ -7,6 +7,7 @@ ghost use Rattle.text.specs.Places.{HeaderRuns, ReadIs};
 ghost use Rattle.text.specs.Read.{maxLines, linesAt, headerAt, roomOf, readText};
 use super::form::OWN_KINDS;
 use super::form::form;
+use buffers::zero_words;
 use text::answer::Fault;
 use text::answer::Reading;
 use text::answer::Step;
@@ -19,17 +20,6 @@ use text::number::CLOSE;
 use text::number::END;
 use text::number::NEWLINE;
 use text::number::byte_at;
-
-// Every word becomes 0.
-fn clear(words: &mut [u32])
-    ensures { λ _. ⌜ now (words .exit) ≡ replicate (length (now (words .entry))) 0 ⌝ }
-{
-    let mut i: usize = 0;
-    while i < words.len() {
-        words[i] = 0;
-        i = i + 1;
-    }
-}
 
 // How many nodes there is room for in so many words.
 fn room_of(words: usize) -> u32
@@ -112,7 +102,7 @@ fn header(s: &[u8]) -> InRange
 pub fn read(text: &[u8], words: &mut [u32]) -> Reading
     ensures { λ r. ⌜ ReadIs r (now (words .exit)) (readText (now (text .entry)) (length (now (words .entry)))) ⌝ }
 {
-    clear(words);
+    zero_words(words);
     if 40000 < text.len() {
         return Reading::Refused(Fault::Length, 40000);
     }
@@ -121,7 +111,7 @@ pub fn read(text: &[u8], words: &mut [u32]) -> Reading
         InRange::Inside(v, p) => match lines(text, p, words, v) {
             Reading::Circuit(variables, n) => Reading::Circuit(variables, n),
             Reading::Refused(f, q) => {
-                clear(words);
+                zero_words(words);
                 Reading::Refused(f, q)
             }
         },

@@ -45,16 +45,16 @@ module _ (s : List ℕ) (m : ℕ) (v : List ℕ) where
           let a = rw (l, z) at i in
           rw (le-ltb 40000 (length s) h, ← e, ← a) (refl, y)
 
-clear-requires : tie.Need-clear-requires
-clear-requires c κs = search needs
+zero-words-requires : tie.Need-zero-words-requires
+zero-words-requires c κs = search needs
 
 same-length : tie.Need-same-length
 same-length c = search needs
 
 returns : tie.Need-returns
 returns c =
-    let at-clear = c .before .before .before in
-    long _ _ _ (c .if1 .taken) (at-clear .clear .ensures)
+    let at-zero = c .before .before .before in
+    long _ _ _ (c .if1 .taken) (at-zero .zero-words .ensures)
 
 header-requires : tie.Need-header-requires
 header-requires c κs = search needs
@@ -78,8 +78,8 @@ enum-known-variables c = search needs
 enum-known-f-2 : tie.Need-enum-known-f-2
 enum-known-f-2 c = search needs
 
-clear-requires-2 : tie.Need-clear-requires-2
-clear-requires-2 c κs = search needs
+zero-words-requires-2 : tie.Need-zero-words-requires-2
+zero-words-requires-2 c κs = search needs
 
 same-length-2 : tie.Need-same-length-2
 same-length-2 c = search needs
@@ -88,8 +88,8 @@ returns-2 : tie.Need-returns-2
 returns-2 c =
     let at-header = c .before .before .before in
     let at-if1 = at-header .before in
-    let at-clear = at-if1 .before .before .before in
-    unfit _ _ _ (at-if1 .if1 .left) _ _ (sym (c .before .f .given .1) ∙ at-header .header .ensures .0) (at-clear .clear .ensures)
+    let at-zero = at-if1 .before .before .before in
+    unfit _ _ _ (at-if1 .if1 .left) _ _ (sym (c .before .f .given .1) ∙ at-header .header .ensures .0) (at-zero .zero-words .ensures)
 
 same-length-3 : tie.Need-same-length-3
 same-length-3 c = search needs
@@ -100,10 +100,10 @@ returns-3 c =
     let at-v = at-lines .before .before .before in
     let at-header = at-v .before .before in
     let at-if1 = at-header .before in
-    let at-clear = at-if1 .before .before .before in
-    accepted _ _ _ (at-if1 .if1 .left) _ _ (sym (at-v .v .given .1) ∙ at-header .header .ensures .0) (at-clear .clear .last .0)
-    (at-clear .clear .kept .0)
-    (at-clear .clear .ensures) _ _ (sym (ap readingOf (c .before .variables .given .1)) ∙ at-lines .lines .ensures .0)
+    let at-zero = at-if1 .before .before .before in
+    accepted _ _ _ (at-if1 .if1 .left) _ _ (sym (at-v .v .given .1) ∙ at-header .header .ensures .0) (at-zero .zero-words .last .0)
+    (at-zero .zero-words .kept .0)
+    (at-zero .zero-words .ensures) _ _ (sym (ap readingOf (c .before .variables .given .1)) ∙ at-lines .lines .ensures .0)
     (at-lines .lines .ensures .1)
 
 same-length-4 : tie.Need-same-length-4
@@ -111,24 +111,24 @@ same-length-4 c = search needs
 
 returns-4 : tie.Need-returns-4
 returns-4 c =
-    let at-clear2 = c .before .before in
-    let at-f2 = at-clear2 .before .before .before in
+    let at-zero2 = c .before .before in
+    let at-f2 = at-zero2 .before .before .before in
     let at-lines = at-f2 .before .before .before .before in
     let at-v = at-lines .before .before .before in
     let at-header = at-v .before .before in
     let at-if1 = at-header .before in
-    let at-clear = at-if1 .before .before .before in
-    let n = at-lines .lines .kept .1 .1 .0 ∙ at-clear .clear .kept .0 in
-    cleared _ _ _ (at-if1 .if1 .left) _ _ (sym (at-v .v .given .1) ∙ at-header .header .ensures .0) (at-clear .clear .last .0)
-    (at-clear .clear .kept .0) (at-clear .clear .ensures)
+    let at-zero = at-if1 .before .before .before in
+    let n = at-lines .lines .kept .1 .1 .0 ∙ at-zero .zero-words .kept .0 in
+    cleared _ _ _ (at-if1 .if1 .left) _ _ (sym (at-v .v .given .1) ∙ at-header .header .ensures .0) (at-zero .zero-words .last .0)
+    (at-zero .zero-words .kept .0) (at-zero .zero-words .ensures)
     (at-f2 .f2 .given .0 .0) (at-f2 .f2 .given .0 .1 .0) (sym (ap readingOf (at-f2 .f2 .given .1)) ∙ at-lines .lines .ensures .0)
-    (at-clear2 .clear2 .ensures ∙ ap (λ (k : ℕ). replicate {A = ℕ} k 0) n)
+    (at-zero2 .zero-words2 .ensures ∙ ap (λ (k : ℕ). replicate {A = ℕ} k 0) n)
 
 pub read-spec : {M : Type 1} → statement M
 read-spec =
     tie.close
     (tie.spec
-    clear-requires
+    zero-words-requires
     same-length
     returns
     header-requires
@@ -137,7 +137,7 @@ read-spec =
     lines-requires
     enum-known-variables
     enum-known-f-2
-    clear-requires-2
+    zero-words-requires-2
     same-length-2
     returns-2
     same-length-3

@@ -1,19 +1,19 @@
--- `primes::zero` meets its contract. The loop's invariant: the first k entries are 0, the others as they were.
+-- `buffers::zero_words` meets its contract. The loop's invariant: the first i entries are 0, the others as they were.
 use Prim.Native.Nat.{_-_, _≤_}
 use mathlib.Core.Path.{_≡_}
 use mathlib.Core.List.{_++_}
 use native.Mathlib.Omega.{arith}
 use lib.ListN.{length, drop, length-set, replicate}
 use borrow.Author.Needs.{needs}
-use Rattle.primes.proofs.Zeros.{zero-more, zero-all}
-use Rattle.primes.proofs.zero.Statement.{statement}
-use Rattle.primes.proofs.zero.Tie as tie
+use Rattle.buffers.proofs.Zeros.{zero-more, zero-all}
+use Rattle.buffers.proofs.zero_words.Statement.{statement}
+use Rattle.buffers.proofs.zero_words.Tie as tie
 
 abbrev Inv-loop : tie.InvT-loop
-Inv-loop d k₀ s k = (k ≤ length d) × (s ≡ replicate k 0 ++ drop k d) × (length s ≡ length d)
+Inv-loop d i₀ s i = (i ≤ length d) × (s ≡ replicate i 0 ++ drop i d) × (length s ≡ length d)
 
 abbrev μ-loop : tie.MeasureT-loop
-μ-loop d k₀ s k = length d - k
+μ-loop d i₀ s i = length d - i
 
 loop-holds : tie.Need-loop-holds Inv-loop μ-loop
 loop-holds c = search needs
@@ -24,8 +24,8 @@ mul-buffer c = search needs
 slice-write-buffer : tie.Need-slice-write-buffer Inv-loop μ-loop
 slice-write-buffer c = search needs
 
-add-k : tie.Need-add-k Inv-loop μ-loop
-add-k c = search needs
+add-i : tie.Need-add-i Inv-loop μ-loop
+add-i c = search needs
 
 loop-less : tie.Need-loop-less Inv-loop μ-loop
 loop-less c = search needs
@@ -34,7 +34,7 @@ loop-again : tie.Need-loop-again Inv-loop μ-loop
 loop-again c =
     let l = c .before .loop in
     let d = c .before .before .args .buffer .now in
-    (omega arith, zero-more (l .k) (l .buffer) d (omega arith) (l .inv .1), simp length-set (l .inv .2))
+    (omega arith, zero-more (l .i) (l .buffer) d (omega arith) (l .inv .1), simp length-set (l .inv .2))
 
 same-length : tie.Need-same-length Inv-loop μ-loop
 same-length c = search needs
@@ -42,10 +42,10 @@ same-length c = search needs
 returns : tie.Need-returns Inv-loop μ-loop
 returns c =
     let l = c .before .loop in
-    zero-all (l .k) (l .buffer) (c .before .before .args .buffer .now) (omega arith) (omega arith) (l .inv .1)
+    zero-all (l .i) (l .buffer) (c .before .before .args .buffer .now) (omega arith) (omega arith) (l .inv .1)
 
-pub zero-spec : {M : Type 1} → statement M
-zero-spec =
+pub zero-words-spec : {M : Type 1} → statement M
+zero-words-spec =
     tie.close
     (tie.spec
     Inv-loop
@@ -53,7 +53,7 @@ zero-spec =
     loop-holds
     mul-buffer
     slice-write-buffer
-    add-k
+    add-i
     loop-less
     loop-again
     same-length

@@ -45,20 +45,12 @@ fn lines(s: &[u8], start: usize, words: &mut [u32], variables: u32) -> Reading
     let mut n: u32 = 0;
     let mut k: u32 = 0;
     while k < 1025 {
-        match form(
-            s,
-            at,
-            words,
-            n,
-            &nodes,
-            Limits {
-                variables,
-                capacity,
-                earlier: k,
-            },
-            MAX_DEPTH,
-            OWN_KINDS,
-        ) {
+        let limits = Limits {
+            variables,
+            capacity,
+            earlier: k,
+        };
+        match form(s, at, words, n, &nodes, limits, MAX_DEPTH, OWN_KINDS) {
             Step::Stop(f, p) => {
                 return Reading::Refused(f, p);
             }

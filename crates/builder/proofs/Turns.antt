@@ -15,8 +15,7 @@ use Rattle.insertion.specs.Filled.{held, Filled}
 use Rattle.insertion.specs.declared.Kept.the-variants.{Count, Full}
 use Rattle.insertion.proofs.Parts.{Even, filled-none}
 use Rattle.builder.specs.Made.{insertAll, Added}
-use Rattle.builder.proofs.Adding.{insertAll-append, filled-length, filled-even, filled-fits, filled-held, added-then}
-use Rattle.builder.proofs.Adding.{added-full}
+use Rattle.builder.proofs.Adding.{insertAll-append, filled-length, filled-fits, filled-held, added-then, added-full}
 
 -- a list that is made of another one term by term: for each term t the terms `one t`
 pub record Steps : Type 0 where
@@ -43,9 +42,6 @@ module _ (m : Steps) (ps ns : List ℕ) (e : length ns ≡ length ps) (whole : L
     (count k : ℕ) (now : Turn m ps ns whole s₀ s count k) where
   pub turn-length : (b : Bool) → length (s b) ≡ length (s₀ b)
   turn-length = filled-length (held s count) s₀ s ev count (now .holds)
-
-  pub turn-even : Even s
-  turn-even = filled-even (held s count) s₀ s ev count (now .holds)
 
   pub turn-fits : count ≤ length (s true)
   turn-fits = filled-fits (held s count) s₀ s ev count (now .holds)

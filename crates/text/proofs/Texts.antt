@@ -78,10 +78,6 @@ more-agree k a lines earlier l e h j lj =
     (same? j k)
 
 -- ---- lines
-lines-flat : (f : Form) (fs : List Form) → printLines (f ∷ fs) ≡ printForm f ++ (10 ∷ printLines fs)
-unfolding printLines
-lines-flat f fs = append-assoc (printForm f) (10 ∷ []) (printLines fs)
-
 own-makes : (f : Form) → Own f → 0 < nodesIn f
 own-makes (constantForm v) o = omega arith
 own-makes (literalForm v x) o = omega arith

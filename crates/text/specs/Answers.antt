@@ -27,8 +27,3 @@ assignmentOf (Assignment m) = answered m
 assignmentOf Variables = refused 21 0
 assignmentOf (Misshapen p) = refused 51 p
 assignmentOf (Misplaced p) = refused 52 p
-
--- the mask that is returned: 0 with a refusal
-abbrev pub maskOf : Outcome ℕ → ℕ
-maskOf (answered m) = m
-maskOf (refused k p) = 0

@@ -1,0 +1,134 @@
+// Asks every question of small circuits and of the one on standard input, and prints the answers.
+use circuits::Refusal;
+use console::print;
+use libc::STDIN_FILENO;
+use libc::STDOUT_FILENO;
+use output::refusals::fault_line;
+use output::refusals::table_refusal_line;
+use queries::Counted;
+use queries::Evaluation;
+use queries::Reduction;
+use queries::Tested;
+use terms::Term;
+use text::answer::Reading;
+
+fn print_refusal(why: Refusal) {
+    let mut line = [0u8; 512];
+    let n = table_refusal_line(&mut line, why);
+    print(&line, n);
+}
+
+fn print_answer(is_yes: bool) {
+    if is_yes {
+        print(b"yes\n", 4);
+    } else {
+        print(b"no\n", 3);
+    }
+}
+
+fn print_term(t: Term) {
+    let mut line = [0u8; 512];
+    let n = output::term_line(&mut line, t);
+    print(&line, n);
+}
+
+// The model count.
+fn count(words: &[u32], variables: u32, nodes: u32) {
+    match queries::count_models(words, variables, nodes) {
+        Counted::Refused(why) => print_refusal(why),
+        Counted::Models(m) => {
+            io::print_decimal(STDOUT_FILENO, m);
+            print(b"\n", 1);
+        }
+    }
+}
+
+// The value at an assignment.
+fn evaluate(words: &[u32], variables: u32, nodes: u32, assignment: u64) {
+    match queries::evaluate(words, variables, nodes, assignment) {
+        Evaluation::Refused(why) => print_refusal(why),
+        Evaluation::Value(v) => print_answer(v),
+    }
+}
+
+// Whether the term is an implicant, and a prime one.
+fn test(words: &[u32], variables: u32, nodes: u32, t: Term) {
+    match queries::implies(words, variables, nodes, t) {
+        Tested::Refused(why) => print_refusal(why),
+        Tested::Answer(b) => print_answer(b),
+    }
+    match queries::is_prime(words, variables, nodes, t) {
+        Tested::Refused(why) => print_refusal(why),
+        Tested::Answer(b) => print_answer(b),
+    }
+}
+
+// What is left of an assignment.
+fn reduce(words: &[u32], variables: u32, nodes: u32, assignment: u64) {
+    match queries::reduce(words, variables, nodes, assignment) {
+        Reduction::Refused(why) => print_refusal(why),
+        Reduction::Reduced(t) => print_term(t),
+    }
+}
+
+// Asks the questions of the circuit of a text, with one assignment and one term.
+fn ask(text: &[u8], assignment: u64, positive: u64, negative: u64) {
+    let mut words = [0u32; 4096];
+    match text_reader::reader::read(text, &mut words) {
+        Reading::Refused(fault, place) => {
+            let mut line = [0u8; 512];
+            let n = fault_line(&mut line, fault, place);
+            print(&line, n);
+        }
+        Reading::Circuit(variables, nodes) => {
+            count(&words, variables, nodes);
+            evaluate(&words, variables, nodes, assignment);
+            test(&words, variables, nodes, Term { positive, negative });
+            reduce(&words, variables, nodes, assignment);
+        }
+    }
+    print(b"\n", 1);
+}
+
+// P1 to P8.
+fn smallest_circuits() {
+    ask(b"(circuit 1)\n(false)\n", 0, 0, 0);
+    ask(b"(circuit 1)\n(true)\n", 1, 1, 0);
+    ask(b"(circuit 1)\n(pick 0 (true) (true))\n", 0, 0, 0);
+    ask(b"(circuit 2)\n(both (yes 0) (no 1))\n", 1, 1, 2);
+    ask(b"(circuit 1)\n(both (yes 0) (no 0))\n", 0, 0, 0);
+    ask(b"(circuit 1)\n(pick 0 (yes 0) (true))\n", 0, 0, 0);
+    ask(b"(circuit 1)\n(pick 0 (false) (false))\n", 0, 0, 0);
+    ask(b"(circuit 1)\n(yes 0)\n(no 0)\n", 0, 0, 0);
+}
+
+// P9 to P12; 31 and 32 with an assignment and a term that name variable 4.
+fn larger_circuits() {
+    ask(
+        b"(circuit 3)\n(pick 0 (no 1) (pick 1 (yes 2) (true)))\n",
+        5,
+        4,
+        2,
+    );
+    ask(b"(circuit 4)\n(pick 3 (true) (yes 2))\n", 12, 4, 8);
+    ask(
+        b"(circuit 4)\n(pick 0 (pick 3 (true) (yes 2)) (no 2))\n",
+        5,
+        1,
+        4,
+    );
+    ask(
+        b"(circuit 4)\n(pick 1 (pick 0 (pick 3 (true) (yes 2)) (no 2)) (both (no 2) (no 3)))\n",
+        16,
+        16,
+        0,
+    );
+}
+
+fn main() {
+    smallest_circuits();
+    larger_circuits();
+    let mut text = [0u8; 40001];
+    let length = io::read_full(STDIN_FILENO, &mut text);
+    ask(&text[..length], 0, 0, 0);
+}

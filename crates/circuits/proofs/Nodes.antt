@@ -12,7 +12,7 @@ use Rattle.masks.proofs.Masks.{put-same, put-lt}
 use Rattle.masks.proofs.Operators.{disjoint-at}
 use Rattle.masks.proofs.Tests.{and-l, and-r, not-or, not-not, along, either, same?}
 use Rattle.terms.specs.Lists.{all}
-use Rattle.terms.specs.Term.{empty, has, isTerm, without, extend}
+use Rattle.terms.specs.Term.{empty, has, without, extend}
 use Rattle.terms.proofs.Implicants.{Free, Prime}
 use Rattle.terms.proofs.Terms.{without-here, extend-here, extend-there, empty-has, without-inside, empty-isTerm, extend-isTerm}
 use Rattle.circuits.specs.Check.{allDisjoint, nodeMeets, undecomposable}

@@ -6,7 +6,6 @@ use mathlib.Core.Logic.{⊎-elim}
 use mathlib.Core.List.{List, [], _∷_, List·Memᴰ, List·Memᴰ·head, List·Memᴰ·tail, List·Memᴰ·not-nil, List·Memᴰ·eq-of-singleton}
 use lib.Dec.{T, T-not}
 use Rattle.masks.specs.Mask.{width, bit, put}
-use Rattle.masks.specs.Numbers.{every}
 use Rattle.masks.proofs.Masks.{put-same, put-lt}
 use Rattle.masks.proofs.Tests.{decide, along}
 use Rattle.terms.specs.Lists.{sort}

@@ -1,7 +1,7 @@
 // Prime implicants of an accepted circuit: the test of a term, and the reduction of an implicant.
 ghost use mathlib.Core.Path.{_≡_};
-ghost use mathlib.Core.Bool.{Bool, _&&_, not, cond};
-ghost use Prim.Native.Nat.{ℕ, pred, _≤_, _<_};
+ghost use mathlib.Core.Bool.{_&&_, not, cond};
+ghost use Prim.Native.Nat.{_≤_, _<_};
 ghost use lib.Dec.{T};
 ghost use Rattle.masks.specs.Numbers.{implied, every};
 ghost use Rattle.terms.specs.Term.{mentions, isTerm, without};

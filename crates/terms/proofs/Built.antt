@@ -10,13 +10,13 @@ use native.Mathlib.Omega.{arith}
 use lib.Dec.{T, T-not, not-T, ltb, ltb→lt, nltb→le}
 use lib.Pow.{pow-mono}
 use Rattle.masks.specs.Mask.{width, bit, size, disjoint}
-use Rattle.masks.specs.Numbers.{every, count}
+use Rattle.masks.specs.Numbers.{count}
 use Rattle.masks.proofs.Numbers.{count-ext, count-less}
 use Rattle.masks.proofs.Operators.{bit-or, disjoint-e, disjoint-i}
 use Rattle.masks.proofs.Tests.{and-i, and-l, and-r, or-cases, not-not, decide}
 use Rattle.terms.specs.Lists.{any, keep}
 use Rattle.terms.specs.Prime.{reduce}
-use Rattle.terms.specs.Term.{has, mentions, variables, literals, isTerm, without, extend, join, inside, conflict}
+use Rattle.terms.specs.Term.{has, mentions, variables, literals, without, extend, join, inside, conflict}
 use Rattle.terms.specs.declared.Term.{Term}
 use Rattle.terms.proofs.Conjunctions.{conj, joined-isTerm, joined-least, prime-joined, joined-prime, apart-prime, Joined}
 use Rattle.terms.proofs.Decisions.{choice, with-literal, no-literal, meet-prime, one-side}

@@ -7,7 +7,7 @@ use mathlib.Core.Logic.{_⊎_, ⊎-elim}
 use lib.Dec.{T}
 use Rattle.masks.proofs.Tests.{and-i, and-l, and-r}
 use Rattle.terms.specs.Prime.{reduce}
-use Rattle.terms.specs.Term.{has, isTerm, without, join}
+use Rattle.terms.specs.Term.{has, without, join}
 use Rattle.terms.specs.declared.Term.{Term}
 use Rattle.terms.proofs.Implicants.{Implicant, Free, implicant-more, prime-least, least-same, reduce-prime}
 use Rattle.terms.proofs.Implicants.{free-unmentioned, Prime}

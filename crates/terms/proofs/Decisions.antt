@@ -7,7 +7,7 @@ use lib.Dec.{T}
 use Rattle.masks.specs.Mask.{bit, put}
 use Rattle.masks.proofs.Masks.{put-same, put-lt}
 use Rattle.masks.proofs.Tests.{along, either}
-use Rattle.terms.specs.Term.{has, isTerm, without, extend}
+use Rattle.terms.specs.Term.{has, without, extend}
 use Rattle.terms.specs.declared.Term.{Term}
 use Rattle.terms.proofs.Conjunctions.{conj, conj-l, conj-r, conj-i}
 use Rattle.terms.proofs.Implicants.{Implicant, Free, implicant-more, free-unmentioned, Prime}

@@ -11,7 +11,7 @@ use Rattle.masks.proofs.Masks.{put-lt}
 use Rattle.masks.proofs.Numbers.{every-e, every-i}
 use Rattle.masks.proofs.Tests.{and-i, and-l, and-r, or-cases, implied-i, implied-e, decide, along, below-suc}
 use Rattle.terms.specs.Prime.{implicant, prime, reduce}
-use Rattle.terms.specs.Term.{has, mentions, isTerm, agrees, without, inside}
+use Rattle.terms.specs.Term.{has, mentions, isTerm, agrees, without}
 use Rattle.terms.specs.declared.Term.{Term}
 use Rattle.terms.proofs.Terms.{Agrees, Inside, Unmentioned, without-here, mentions-i, inside-refl, inside-trans}
 use Rattle.terms.proofs.Terms.{without-inside, inside-without, without-mono, agrees-inside, put-agrees, has-below}

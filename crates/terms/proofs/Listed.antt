@@ -7,7 +7,7 @@ use mathlib.Core.List.{List, [], _∷_, map, List·Memᴰ, List·Memᴰ·not-nil
 use mathlib.Core.List.{Memᴰ·append-right, Memᴰ·cast, head-eq-of-cons-eq, tail-eq-of-cons-eq}
 use lib.Dec.{T}
 use Rattle.masks.specs.Mask.{bit}
-use Rattle.masks.specs.Numbers.{every, below}
+use Rattle.masks.specs.Numbers.{below}
 use Rattle.masks.proofs.Numbers.{below-mem}
 use Rattle.masks.proofs.Operators.{bit-or}
 use Rattle.masks.proofs.Tests.{or-r, or-cases, along}

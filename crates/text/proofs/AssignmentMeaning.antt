@@ -11,8 +11,6 @@ use lib.Seq.{take-all}
 use borrow.Author.Tests.{eq-eqb, ne-eqb}
 use Rattle.masks.specs.Mask.{put}
 use Rattle.masks.proofs.Tests.{and-i, and-l, and-r, decide, is-true, is-false, same?}
-use Rattle.terms.specs.Order.{before}
-use Rattle.terms.specs.Term.{inside}
 use Rattle.circuits.specs.Outcome.{Outcome, answered, refused}
 use Rattle.text.specs.Ascii.{ascii}
 use Rattle.text.specs.AssignmentLine.{variableOf, memberAt, closedAt, memberThen, membersAt, stowThen, readAssignment}

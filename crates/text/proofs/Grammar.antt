@@ -5,8 +5,6 @@ use mathlib.Core.Bool.{Bool, true, false, cond}
 use mathlib.Core.Logic.{_≢_}
 use mathlib.Core.List.{List, [], _∷_, _++_, cons≢nil, append-nil, append-assoc}
 use native.Mathlib.Omega.{arith}
-use Rattle.masks.specs.Numbers.{some}
-use Rattle.terms.specs.Term.{variables}
 use Rattle.text.specs.Ascii.{ascii}
 use Rattle.text.specs.Read.{ownKinds, allKinds, wordOf}
 use Rattle.text.specs.Syntax.{decimal, printForm, printLines, print, Below, Own, GrammaticalLines, Tree, Grammatical, Form}

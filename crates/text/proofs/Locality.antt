@@ -6,7 +6,6 @@ use mathlib.Core.List.{List, [], _∷_}
 use native.Mathlib.Omega.{arith}
 use lib.Dec.{eqb, ltb, leb}
 use lib.ListN.{getD, set, replicate}
-use Rattle.terms.specs.Term.{variables}
 use Rattle.circuits.specs.Outcome.{Outcome, answered, refused}
 use Rattle.text.specs.Answers.{faultNumber}
 use Rattle.text.specs.Ascii.{ascii}

@@ -1,16 +1,14 @@
 -- What reading a circuit text means, by the trees that print to it.
-use Prim.Native.Nat.{ℕ, zero, suc, _+_, _-_, _*_, _/_, _<_, _≤_}
+use Prim.Native.Nat.{ℕ, _+_, _-_, _*_, _/_, _<_, _≤_}
 use mathlib.Core.Path.{_≡_, refl, sym, ap, ap₂, subst, _∙_}
 use mathlib.Core.List.{List, [], _∷_, _++_}
 use native.Mathlib.Nat.{zero-add}
 use native.Mathlib.Omega.{arith}
 use native.Mathlib.Decide.{decLt}
-use lib.ListN.{length, drop, replicate, length-replicate}
+use lib.ListN.{length, replicate, length-replicate}
 use lib.Seq.{sets, sets-eq}
 use borrow.Author.Tests.{lt-ltb, le-ltb}
 use Rattle.buffers.proofs.Zeros.{drop-zeros}
-use Rattle.masks.specs.Mask.{within}
-use Rattle.terms.specs.Term.{variables}
 use Rattle.circuits.specs.Outcome.{Outcome, answered, refused}
 use Rattle.text.specs.Faults.{treeFaults}
 use Rattle.text.specs.Read.{answers, roomOf, readText, ReadOut}

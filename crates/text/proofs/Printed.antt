@@ -11,7 +11,6 @@ use lib.Dec.{eqb, ltb, leb}
 use lib.ListN.{length, getD, set, length-append}
 use lib.Seq.{sets}
 use borrow.Author.Tests.{eq-eqb, lt-ltb, le-ltb, le-leb, lt-leb}
-use Rattle.terms.specs.Term.{variables}
 use Rattle.text.specs.Answers.{faultNumber}
 use Rattle.text.specs.Faults.{unless, nodesIn, closing, formFaults}
 use Rattle.text.specs.Read.{byteAt, rangedAt, kindOf, ownKinds, allKinds, wordOf, leafOf, innerOf, lineOf, tailAt, headAt}

@@ -5,15 +5,13 @@ use mathlib.Core.Path.{_≡_, refl, sym, ap, subst, _∙_}
 use mathlib.Core.Bool.{Bool, true, false, cond}
 use mathlib.Core.Logic.{_≢_}
 use mathlib.Core.List.{List, [], _∷_, _++_}
-use native.Mathlib.Nat.{not-suc-le-zero, mod-lt, zero-lt-suc, lt-irrefl, le-of-suc-le-suc}
+use native.Mathlib.Nat.{mod-lt, zero-lt-suc, lt-irrefl}
 use native.Mathlib.Omega.{arith}
 use native.Mathlib.Decide.{decLt, decLe}
 use lib.Dec.{ltb}
 use lib.ListN.{length, getD, take, length-append, replicate, length-replicate, List·getD-append, List·getD-eq-default}
 use lib.Seq.{getD-append-add, length-take-le, getD-take}
 use borrow.Author.Tests.{ne-eqb}
-use Rattle.terms.specs.Order.{before}
-use Rattle.terms.specs.Term.{inside}
 use Rattle.circuits.specs.Outcome.{Outcome, refused}
 use Rattle.text.specs.Ascii.{ascii}
 use Rattle.text.specs.Faults.{treeFaults}
@@ -25,7 +23,7 @@ use Rattle.text.proofs.Grammar.{IsText}
 use Rattle.text.proofs.Locality.{SameTo, body-local}
 use Rattle.text.proofs.Meaning.{short, long, value-not}
 use Rattle.text.proofs.Texts.{AnswerRead, readBody, treeGood, tree-read}
-use Rattle.text.proofs.Viability.{viableTo, Bytes, Said, body-said}
+use Rattle.text.proofs.Viability.{viableTo, Bytes, Said, past-end, body-said}
 
 -- ---- the bytes of a printed text are bytes
 pub bytes-append : (x y : List ℕ) → Bytes x → Bytes y → Bytes (x ++ y)
@@ -86,11 +84,6 @@ print-bytes t =
     (worded (ascii "(circuit ") (t .variables) (41 ∷ 10 ∷ []) (omega arith) (omega arith)) (lines-bytes (t .lines))
 
 -- ---- texts that begin alike
-pub byte-of : (l : List ℕ) (i : ℕ) → Bytes l → i < length l → getD l i 256 < 256
-byte-of [] i b h = absurd (not-suc-le-zero h)
-byte-of (c ∷ l) zero b h = b .0
-byte-of (c ∷ l) (suc i) b h = byte-of l i (b .1) (le-of-suc-le-suc h)
-
 pub begins-same : (s s′ rest : List ℕ) (p : ℕ) → p < length s → take (p + 1) s ++ rest ≡ s′ → SameTo s s′ p
 begins-same s s′ rest p l e i h =
     let n : length (take (p + 1) s) ≡ p + 1 = length-take-le (p + 1) s (omega arith) in
@@ -133,7 +126,7 @@ printed-inside s q k t rest bytes l e = by (decLe q (length s))
         ∙ getD-take q (marked s k) i 256 (omega arith) ∙ marked-same s k i i (omega arith)
         ∙ List·getD-eq-default s 256 (omega arith) in
         let j : i < length t = omega (arith, ap length e, length-append (take q (marked s k)) rest) in
-        absurd (omega (arith, byte-of t i bytes j))
+        absurd (omega (arith, past-end s t i bytes c, j))
 
 module _ (s : List ℕ) (m k p : ℕ) (h : readBody s m .answer ≡ refused k p) where
   said : Said s (refused k p)

@@ -14,7 +14,6 @@ use borrow.Author.Tests.{lt-ltb, le-ltb}
 use Rattle.masks.specs.Numbers.{some, below}
 use Rattle.masks.proofs.Numbers.{some-i}
 use Rattle.masks.proofs.Tests.{and-l, and-r, not-not, below-suc}
-use Rattle.terms.specs.Term.{variables}
 use Rattle.circuits.specs.Check.{wellFormed, inRange, malformed, wellFormedTable}
 use Rattle.circuits.specs.Node.{kind, node, word, nodeAt}
 use Rattle.circuits.specs.Outcome.{answered}

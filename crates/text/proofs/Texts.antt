@@ -13,8 +13,6 @@ use lib.ListN.{length, getD, set, length-append, length-set, replicate, length-r
 use lib.Seq.{getD-at, sets, getD-set-same, getD-set-other}
 use borrow.Author.Tests.{eq-eqb, ne-eqb, lt-ltb, le-ltb, le-leb, lt-leb}
 use Rattle.masks.proofs.Tests.{same?}
-use Rattle.terms.specs.Term.{variables}
-use Rattle.circuits.specs.Node.{node}
 use Rattle.circuits.specs.Outcome.{Outcome, answered, refused}
 use Rattle.text.specs.Ascii.{ascii}
 use Rattle.text.specs.Faults.{unless, nodesIn, formFaults, linesFaults, treeFaults}

@@ -8,11 +8,10 @@ use native.Mathlib.Omega.{arith}
 use native.Mathlib.Numerals.{add-one}
 use native.Mathlib.Decide.{decLt, decLe}
 use lib.Dec.{eqb, ltb, leb}
-use lib.ListN.{length, getD, take, set, replicate, List·getD-eq-default}
+use lib.ListN.{length, getD, take, set, replicate}
 use lib.Seq.{take-all, take-suc}
 use borrow.Author.Tests.{eq-eqb, ne-eqb, lt-ltb, le-ltb, le-leb, lt-leb}
 use Rattle.masks.proofs.Tests.{same?}
-use Rattle.terms.specs.Term.{variables}
 use Rattle.circuits.specs.Outcome.{Outcome, answered, refused}
 use Rattle.text.specs.Answers.{faultNumber}
 use Rattle.text.specs.Ascii.{ascii}
@@ -36,6 +35,7 @@ use Rattle.text.specs.declared.head.Opening.{Opening}
 use Rattle.text.specs.declared.head.Opening.the-variants.{Broken, Leaf, Inner, Line}
 use Rattle.text.specs.declared.number.Numeral.{Numeral}
 use Rattle.text.specs.declared.number.Numeral.the-variants.{Value, Missing}
+use Rattle.text.proofs.Laws.{inside}
 use Rattle.text.proofs.Grammar.{IsNumber, IsForm, IsLines, IsText, one-digit, two-digits, three-digits, four-digits}
 use Rattle.text.proofs.Grammar.{constant-form, literal-form, decision-form, conjunction-form, line-form, last-line}
 use Rattle.text.proofs.Grammar.{next-line, whole-text}
@@ -93,13 +93,6 @@ true-text : (kinds : ℕ) → 6 ≤ kinds → IsForm kinds trueText
 unfolding printForm
 true-text kinds l = constant-form kinds l true
 
-inside-text : (s : List ℕ) (at : ℕ) → byteAt s at < 256 → at < length s
-inside-text s at l = by (decLt at (length s))
-  where
-    by : Dec (at < length s) → at < length s
-    by (yes h) = h
-    by (no h) = let e : byteAt s at ≡ 256 = List·getD-eq-default s 256 (omega arith) in absurd (omega arith)
-
 module _ (s : List ℕ) where
   -- x stands from place at up to place p
   abbrev pub Span : ℕ → ℕ → List ℕ → Type 0
@@ -113,7 +106,7 @@ module _ (s : List ℕ) where
 
   pub one-byte : (at b : ℕ) → b < 256 → byteAt s at ≡ b → Span at (at + 1) (b ∷ [])
   one-byte at b l e =
-      let i = inside-text s at (omega (arith, e)) in
+      let i = inside s at (omega (arith, e)) in
       ap (λ (k : ℕ). take k s) (add-one at) ∙ take-suc s at 256 i ∙ ap (λ (c : ℕ). take at s ++ (c ∷ [])) e
 
   -- ---- words and numbers

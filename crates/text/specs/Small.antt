@@ -3,7 +3,7 @@ use Prim.Native.String.{String}
 use Prim.Native.Nat.{ℕ}
 use mathlib.Core.Bool.{Bool, true, false}
 use mathlib.Core.List.{List, [], _∷_}
-use Rattle.terms.specs.Term.{term, variables}
+use Rattle.terms.specs.Term.{term}
 use Rattle.circuits.specs.Known.{holds, Known, fault, listing}
 use Rattle.circuits.specs.Outcome.{Outcome, answered, refused}
 use Rattle.text.specs.Ascii.{ascii}

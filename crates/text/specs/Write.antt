@@ -5,7 +5,6 @@ use mathlib.Core.List.{List, [], _∷_, _++_, map}
 use lib.Dec.{ltb}
 use lib.ListN.{length, getD, drop}
 use Rattle.masks.specs.Numbers.{below}
-use Rattle.terms.specs.Term.{variables}
 use Rattle.circuits.specs.Check.{inRange, malformed, firstFault}
 use Rattle.circuits.specs.Node.{nodeAt, Node, constant, literal, decision, conjunction, unknown}
 use Rattle.circuits.specs.Outcome.{Outcome, answered, refused}

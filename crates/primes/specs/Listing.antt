@@ -49,6 +49,23 @@ abbrev pub written : Outcome (Unit {0}) → ℕ → List ℕ → List ℕ → Li
 written (answered u) m l old = l ++ drop m old
 written (refused k i) m l old = cond (eqb k 42) (replicate m 0 ++ drop m old) old
 
+-- the answer, with the three buffers afterwards
+pub record ListOut : Type 0 where
+  pub answer : Outcome (Unit {0})
+  pub positives : List ℕ
+  pub negatives : List ℕ
+  pub counts : List ℕ
+
+-- listing into the buffers ps, ns and cs
+abbrev pub listTable : ℕ → ℕ → List ℕ → ℕ → List ℕ → List ℕ → List ℕ → ListOut
+listTable N n w R ps ns cs =
+    let o : Outcome (Unit {0}) = listing N n w R ps ns cs in record {
+      answer = o;
+      positives = written o (n * R) (listedMasks N n w R true) ps;
+      negatives = written o (n * R) (listedMasks N n w R false) ns;
+      counts = written o n (listedCounts N n w) cs;
+    }
+
 -- the number and the node of each answer of the code
 abbrev pub listed : Listing → Outcome (Unit {0})
 listed Listed = answered tt
@@ -56,10 +73,10 @@ listed (Refused r) = refusedBy r
 
 -- what the listing answers, and what it leaves in each buffer, for all inputs
 pub record ListResult (N n : ℕ) (w : List ℕ) (R : ℕ) (ps ns cs ps′ ns′ cs′ : List ℕ) (r : Listing) : Type 0 where
-  pub answer : listed r ≡ listing N n w R ps ns cs
-  pub positives : ps′ ≡ written (listing N n w R ps ns cs) (n * R) (listedMasks N n w R true) ps
-  pub negatives : ns′ ≡ written (listing N n w R ps ns cs) (n * R) (listedMasks N n w R false) ns
-  pub counts : cs′ ≡ written (listing N n w R ps ns cs) n (listedCounts N n w) cs
+  pub answer : listed r ≡ listTable N n w R ps ns cs .answer
+  pub positives : ps′ ≡ listTable N n w R ps ns cs .positives
+  pub negatives : ns′ ≡ listTable N n w R ps ns cs .negatives
+  pub counts : cs′ ≡ listTable N n w R ps ns cs .counts
 
 -- the c entries of node i's part of a row buffer; none where i is above 1,023, R above 4,096, c above R, or they pass the end
 abbrev pub viewed : List ℕ → ℕ → ℕ → ℕ → List ℕ

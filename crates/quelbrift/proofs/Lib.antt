@@ -1,0 +1,2 @@
+mod Placed
+mod Settled

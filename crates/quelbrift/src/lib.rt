@@ -1,0 +1,215 @@
+// What C and Rust call: each function is thin over one operation. A name is the whole program's, so each begins with the crate's.
+// include/quelbrift.h says what each takes, answers and leaves in each buffer.
+ghost use mathlib.Core.Path.{_≡_};
+ghost use lib.ListN.{length};
+ghost use Rattle.circuits.specs.Check.{check};
+ghost use Rattle.circuits.specs.Outcome.{answered};
+ghost use Rattle.text.specs.AssignmentLine.{readAssignment};
+ghost use Rattle.text.specs.Read.{readText};
+ghost use Rattle.text.specs.Write.{writeTable};
+ghost use Rattle.queries.specs.Answers.{tested};
+ghost use Rattle.queries.specs.Queries.{evaluation, modelCount, implicantTest, primeTest, reduction};
+ghost use Rattle.primes.specs.Listing.{listTable, viewed};
+ghost use Rattle.quelbrift.specs.Boundary.{answerOf, nothing, number, numbers, truth, masks, placed};
+
+mod answer;
+
+use answer::Answer;
+use answer::done;
+use answer::done_truth;
+use answer::refused;
+use answer::refused_by;
+use primes::Listing;
+use queries::Checked;
+use queries::Counted;
+use queries::Evaluation;
+use queries::Reduction;
+use queries::Tested;
+use terms::Term;
+use text::answer::AssignmentReading;
+use text::answer::Reading;
+use text::answer::fault_number;
+use text_writer::writer::Written;
+
+// Reads a circuit text into the words: the numbers of variables and of nodes.
+#[no_mangle]
+pub extern "C" fn quelbrift_read(text: &[u8], words: &mut [u32]) -> Answer
+    ensures { λ r. ⌜ r ≡ answerOf numbers (readText (now (text .entry)) (length (now (words .entry))) .answer) ⌝ }
+    ensures { λ _. ⌜ now (words .exit) ≡ readText (now (text .entry)) (length (now (words .entry))) .words ⌝ }
+{
+    match text_reader::reader::read(text, words) {
+        Reading::Circuit(variables, nodes) => done(variables as u64, nodes as u64),
+        Reading::Refused(fault, place) => refused(fault_number(fault), place as u64),
+    }
+}
+
+// Writes a table as text into the sink: the length.
+#[no_mangle]
+pub extern "C" fn quelbrift_write(
+    words: &[u32],
+    variables: u32,
+    nodes: u32,
+    sink: &mut [u8],
+) -> Answer
+    ensures { λ r. ⌜ r ≡ answerOf number (writeTable variables nodes (now (words .entry)) (now (sink .entry)) .answer) ⌝ }
+    ensures { λ _. ⌜ now (sink .exit) ≡ writeTable variables nodes (now (words .entry)) (now (sink .entry)) .sink ⌝ }
+{
+    match text_writer::writer::write(words, variables, nodes, sink) {
+        Written::Done(length) => done(length as u64, 0),
+        Written::Refused(why) => refused_by(why),
+        Written::Short(length) => refused(16, length as u64),
+    }
+}
+
+// The check of a table.
+#[no_mangle]
+pub extern "C" fn quelbrift_check(words: &[u32], variables: u32, nodes: u32) -> Answer
+    ensures { λ r. ⌜ r ≡ answerOf nothing (check variables nodes (now (words .entry))) ⌝ }
+{
+    match queries::check(words, variables, nodes) {
+        Checked::Accepted => done(0, 0),
+        Checked::Refused(why) => refused_by(why),
+    }
+}
+
+// The verdict: 1 where the assignment satisfies the circuit, else 0.
+#[no_mangle]
+pub extern "C" fn quelbrift_evaluate(
+    words: &[u32],
+    variables: u32,
+    nodes: u32,
+    assignment: u64,
+) -> Answer
+    ensures { λ r. ⌜ r ≡ answerOf truth (evaluation variables nodes (now (words .entry)) assignment) ⌝ }
+{
+    match queries::evaluate(words, variables, nodes, assignment) {
+        Evaluation::Value(b) => done_truth(b),
+        Evaluation::Refused(why) => refused_by(why),
+    }
+}
+
+// The model count.
+#[no_mangle]
+pub extern "C" fn quelbrift_count_models(words: &[u32], variables: u32, nodes: u32) -> Answer
+    ensures { λ r. ⌜ r ≡ answerOf number (modelCount variables nodes (now (words .entry))) ⌝ }
+{
+    match queries::count_models(words, variables, nodes) {
+        Counted::Models(m) => done(m, 0),
+        Counted::Refused(why) => refused_by(why),
+    }
+}
+
+// The answer to a test of a term: 1 or 0.
+fn test(r: Tested) -> Answer
+    ensures { λ a. ⌜ a ≡ answerOf truth (tested r) ⌝ }
+{
+    match r {
+        Tested::Answer(b) => done_truth(b),
+        Tested::Refused(why) => refused_by(why),
+    }
+}
+
+// 1 where the term is an implicant, else 0.
+#[no_mangle]
+pub extern "C" fn quelbrift_implies(
+    words: &[u32],
+    variables: u32,
+    nodes: u32,
+    positive: u64,
+    negative: u64,
+) -> Answer
+    ensures { λ r. ⌜ r ≡ answerOf truth
+        (implicantTest variables nodes (now (words .entry)) (record { positive = positive; negative = negative })) ⌝ }
+{
+    test(queries::implies(words, variables, nodes, Term { positive, negative }))
+}
+
+// 1 where the term is a prime implicant, else 0.
+#[no_mangle]
+pub extern "C" fn quelbrift_is_prime(
+    words: &[u32],
+    variables: u32,
+    nodes: u32,
+    positive: u64,
+    negative: u64,
+) -> Answer
+    ensures { λ r. ⌜ r ≡ answerOf truth
+        (primeTest variables nodes (now (words .entry)) (record { positive = positive; negative = negative })) ⌝ }
+{
+    test(queries::is_prime(words, variables, nodes, Term { positive, negative }))
+}
+
+// The masks of the prime implicant to which the assignment is struck down.
+#[no_mangle]
+pub extern "C" fn quelbrift_reduce(
+    words: &[u32],
+    variables: u32,
+    nodes: u32,
+    assignment: u64,
+) -> Answer
+    ensures { λ r. ⌜ r ≡ answerOf masks (reduction variables nodes (now (words .entry)) assignment) ⌝ }
+{
+    match queries::reduce(words, variables, nodes, assignment) {
+        Reduction::Reduced(t) => done(t.positive, t.negative),
+        Reduction::Refused(why) => refused_by(why),
+    }
+}
+
+// Lists the prime implicants of every node.
+#[no_mangle]
+pub extern "C" fn quelbrift_list(
+    words: &[u32],
+    variables: u32,
+    nodes: u32,
+    capacity: u32,
+    positives: &mut [u64],
+    negatives: &mut [u64],
+    counts: &mut [u32],
+) -> Answer
+    ensures { λ r. ⌜ r ≡ answerOf nothing (listTable variables nodes (now (words .entry)) capacity
+        (now (positives .entry)) (now (negatives .entry)) (now (counts .entry)) .answer) ⌝ }
+    ensures { λ _. ⌜ now (positives .exit) ≡ listTable variables nodes (now (words .entry)) capacity
+        (now (positives .entry)) (now (negatives .entry)) (now (counts .entry)) .positives ⌝ }
+    ensures { λ _. ⌜ now (negatives .exit) ≡ listTable variables nodes (now (words .entry)) capacity
+        (now (positives .entry)) (now (negatives .entry)) (now (counts .entry)) .negatives ⌝ }
+    ensures { λ _. ⌜ now (counts .exit) ≡ listTable variables nodes (now (words .entry)) capacity
+        (now (positives .entry)) (now (negatives .entry)) (now (counts .entry)) .counts ⌝ }
+{
+    match primes::list(
+        positives,
+        negatives,
+        counts,
+        words,
+        variables,
+        nodes,
+        capacity,
+    ) {
+        Listing::Listed => done(0, 0),
+        Listing::Refused(why) => refused_by(why),
+    }
+}
+
+// Where a node's entries stand in a buffer of the listing, and how many they are; 0 and 0 for the empty part.
+#[no_mangle]
+pub extern "C" fn quelbrift_view(buffer: &[u64], capacity: u32, node: u32, count: u32) -> Answer
+    ensures { λ r. ⌜ r ≡ answerOf (placed capacity node) (answered (viewed (now (buffer .entry)) capacity node count)) ⌝ }
+{
+    let part = primes::view(buffer, capacity, node, count);
+    if part.len() == 0 {
+        return done(0, 0);
+    }
+    done((node as u64) * (capacity as u64), part.len() as u64)
+}
+
+// Reads the line of an assignment: the mask of the variables that are true.
+#[no_mangle]
+pub extern "C" fn quelbrift_read_assignment(line: &[u8], variables: u32) -> Answer
+    ensures { λ r. ⌜ r ≡ answerOf number (readAssignment (now (line .entry)) variables) ⌝ }
+{
+    match text_assignment::assignment::read_assignment(line, variables) {
+        AssignmentReading::Assignment(mask) => done(mask, 0),
+        AssignmentReading::Variables => refused(21, 0),
+        AssignmentReading::Misshapen(place) => refused(51, place as u64),
+        AssignmentReading::Misplaced(place) => refused(52, place as u64),
+    }
+}

@@ -1,0 +1,156 @@
+/*
+ * Quelbrift: rule circuits of feeder container ships. Link libquelbrift.a (rt staticlib quelbrift; x86-64).
+ *
+ * Every function takes any numbers and any contents of the buffers, ends, and does its work or refuses by a number. A buffer is a
+ * pointer and then its length in elements. What is asked of the caller is what C asks of every array: the pointer is not NULL (not
+ * even where the length is 0) and has that many elements, and a buffer that is written overlaps no other. No function keeps a
+ * pointer or state; calls from several threads at once do not disturb one another. A call needs at most 256 KiB of stack.
+ *
+ * Words of the trade and of the field: a fact is a variable, a stow an assignment, a row a term, a clearance a prime implicant.
+ * An assignment is a mask: bit i is set where variable i is true (the fact is yes). A term is two masks, positive (marked yes) and
+ * negative (marked no).
+ *
+ * A circuit is a table of u32 words, four a node: kind, variable, a, b; node i stands at word 4 * i, the last node is the whole
+ * circuit. Kinds: 0 false, 1 true, 2 yes, 3 no, 4 pick (a where the variable is false, b where it is true), 5 both. An unused word
+ * is 0, and children stand below their parent. Tables hold 1 to 1,024 nodes over 1 to 40 variables.
+ */
+#ifndef QUELBRIFT_H
+#define QUELBRIFT_H
+
+#include <stddef.h>
+#include <stdint.h>
+
+#ifdef __cplusplus
+extern "C" {
+#endif
+
+/*
+ * number  0: the work is done; else the number of the refusal
+ * place   of a refusal: its byte, its node, or the needed length; 0 where it has none, and where the work is done
+ * first   the first value of the function; 0 where it has none, and with every refusal
+ * second  the second value of the function; 0 likewise
+ */
+typedef struct {
+    uint32_t number;
+    uint64_t place;
+    uint64_t first;
+    uint64_t second;
+} quelbrift_answer;
+
+enum {
+    QUELBRIFT_DONE = 0,
+    /* of a circuit text, with the byte */
+    QUELBRIFT_LENGTH = 10,    /* over 40,000 bytes; the place is 40,000 */
+    QUELBRIFT_SHAPE = 11,     /* wrong shape: no text goes on with this byte; or the end, where more is needed */
+    QUELBRIFT_RANGE = 12,     /* a number of variables or a variable out of range; the byte after it */
+    QUELBRIFT_REFERENCE = 13, /* not the number of an earlier line; the byte after it */
+    QUELBRIFT_DEPTH = 14,     /* a bracket seventeen deep */
+    QUELBRIFT_NODES = 15,     /* no room for the node, at its closing bracket */
+    /* of a sink, with the needed length */
+    QUELBRIFT_SINK = 16,
+    /* of a table, with the lowest node */
+    QUELBRIFT_TABLE = 21,          /* variables, nodes or words out of range; node 0 */
+    QUELBRIFT_MALFORMED = 22,      /* a kind above 5, a variable or child out of range, an unused word that is not 0 */
+    QUELBRIFT_PARENTLESS = 23,     /* a node, not the last, that is nobody's child */
+    QUELBRIFT_UNDECOMPOSABLE = 24, /* a variable that meets itself */
+    QUELBRIFT_UNREDUCED = 25,      /* a both with a false child, or a pick with two */
+    /* of the question; the place is 0 */
+    QUELBRIFT_ASSIGNMENT = 31,  /* a bit at the number of variables or above */
+    QUELBRIFT_TERM = 32,        /* such a bit, or one in both masks */
+    QUELBRIFT_UNSATISFIED = 33, /* the assignment is not allowed */
+    QUELBRIFT_BUFFERS = 41,     /* a capacity above 4,096, or buffers too small for it */
+    QUELBRIFT_CAPACITY = 42,    /* more prime implicants than the capacity */
+    /* of an assignment line, with the byte */
+    QUELBRIFT_LINE_SHAPE = 51, /* wrong shape, placed as 11 */
+    QUELBRIFT_LINE_ORDER = 52  /* a variable out of range, or not above the one before; the byte after it */
+};
+
+/*
+ * Reads a circuit text into words, at most 1,024 nodes or a quarter of the words.
+ * Done: first is the number of variables, second the number of nodes; the words past the nodes are 0.
+ * Refuses: 10, else 11 to 15 at the lowest byte. Every word is 0 then.
+ */
+quelbrift_answer quelbrift_read(const uint8_t *text, size_t text_length, uint32_t *words, size_t words_length);
+
+/*
+ * Writes a table as circuit text into the sink: node i as line i, each child as (line K).
+ * Done: first is the text's length; the bytes past it are unchanged.
+ * Refuses: 21, 22, then 16 with the needed length. The sink is unchanged then.
+ */
+quelbrift_answer quelbrift_write(const uint32_t *words, size_t words_length, uint32_t variables, uint32_t nodes,
+                                 uint8_t *sink, size_t sink_length);
+
+/*
+ * Checks a table: 21 to 25 in that order, each with its lowest node. Every other operation on a table, but the writing, makes this
+ * check first and gives its refusals.
+ * Done: the table is accepted; no value. Refuses: 21, 22, 23, 24, 25.
+ */
+quelbrift_answer quelbrift_check(const uint32_t *words, size_t words_length, uint32_t variables, uint32_t nodes);
+
+/*
+ * The verdict for an assignment.
+ * Done: first is 1 where it is allowed, else 0. Refuses: 21 to 25, then 31.
+ */
+quelbrift_answer quelbrift_evaluate(const uint32_t *words, size_t words_length, uint32_t variables, uint32_t nodes,
+                                    uint64_t assignment);
+
+/*
+ * How many of the 2^variables assignments are allowed.
+ * Done: first is the count. Refuses: 21 to 25.
+ */
+quelbrift_answer quelbrift_count_models(const uint32_t *words, size_t words_length, uint32_t variables, uint32_t nodes);
+
+/*
+ * Whether every assignment that agrees with the term is allowed.
+ * Done: first is 1 or 0. Refuses: 21 to 25, then 32.
+ */
+quelbrift_answer quelbrift_implies(const uint32_t *words, size_t words_length, uint32_t variables, uint32_t nodes,
+                                   uint64_t positive, uint64_t negative);
+
+/*
+ * Whether the term is a clearance: it implies, and without any one of its marks it does not.
+ * Done: first is 1 or 0. Refuses: 21 to 25, then 32.
+ */
+quelbrift_answer quelbrift_is_prime(const uint32_t *words, size_t words_length, uint32_t variables, uint32_t nodes,
+                                    uint64_t positive, uint64_t negative);
+
+/*
+ * Strikes an allowed assignment down to a clearance: of all its marks, those of variable 0, 1, ... in turn, each if the rest still
+ * implies.
+ * Done: first is the positive mask, second the negative mask of the term left. Refuses: 21 to 25, then 31, then 33.
+ */
+quelbrift_answer quelbrift_reduce(const uint32_t *words, size_t words_length, uint32_t variables, uint32_t nodes,
+                                  uint64_t assignment);
+
+/*
+ * Lists the clearances of every node, at most capacity of each. Node i's count goes to counts[i], its positive and negative masks to
+ * positives[i * capacity] and negatives[i * capacity] on, in order: fewer marks first, then the smaller mask of all marked
+ * variables, then the smaller positive mask. The other entries of the first nodes * capacity are 0, later entries are unchanged.
+ * Done: no value. No count is above the last node's.
+ * Refuses: 21 to 25, then 41; all buffers are unchanged then. Then 42, exactly where the circuit has more clearances than the
+ * capacity; the first nodes * capacity entries of both row buffers and the first nodes counts are 0 then, later ones unchanged.
+ */
+quelbrift_answer quelbrift_list(const uint32_t *words, size_t words_length, uint32_t variables, uint32_t nodes, uint32_t capacity,
+                                uint64_t *positives, size_t positives_length, uint64_t *negatives, size_t negatives_length,
+                                uint32_t *counts, size_t counts_length);
+
+/*
+ * The part of a row buffer that holds the first count entries of a node, by its offset; the buffer is not read.
+ * Done, always: first is the part's offset in the buffer, second its length, which is count; both are 0 for the empty part, which
+ * is the answer too where the node is above 1,023, the capacity above 4,096, the count above the capacity, or the part would end
+ * past the buffer.
+ */
+quelbrift_answer quelbrift_view(const uint64_t *buffer, size_t buffer_length, uint32_t capacity, uint32_t node, uint32_t count);
+
+/*
+ * Reads a stow line, (stow V V ...) and byte 10: the variables that are true, rising; every other one is false.
+ * Done: first is the assignment. Refuses: 21 (place 0) where the number of variables is out of range; else 51 or 52 at the lowest
+ * byte.
+ */
+quelbrift_answer quelbrift_read_assignment(const uint8_t *line, size_t line_length, uint32_t variables);
+
+#ifdef __cplusplus
+}
+#endif
+
+#endif

@@ -8,13 +8,13 @@ use lib.ListN.{length, drop}
 use Rattle.terms.specs.Lists.{keep}
 use Rattle.terms.specs.Term.{extend, join, conflict}
 use Rattle.terms.specs.declared.Term.{Term}
-use Rattle.terms.proofs.Built.{joinsWith, joins, holdsOne, extended}
+use Rattle.terms.proofs.Built.{joinsWith, holdsOne, extended}
 use Rattle.lists.specs.Scans.{termsOf, termAt}
 use Rattle.lists.proofs.Parts.{drop-terms, drop-end}
 use Rattle.insertion.specs.Filled.{held, Filled}
 use Rattle.insertion.specs.declared.Kept.the-variants.{Count, Full}
 use Rattle.insertion.proofs.Parts.{Even, filled-none}
-use Rattle.builder.specs.Made.{insertAll, Added}
+use Rattle.builder.specs.Made.{insertAll, madeWith, madeEach, Added}
 use Rattle.builder.proofs.Adding.{insertAll-append, filled-length, filled-fits, filled-held, added-then, added-full}
 
 -- a list that is made of another one term by term: for each term t the terms `one t`
@@ -109,10 +109,6 @@ keep-append p (t ∷ l) k = go (p t) (keep-append p l k)
     go true e = ap (λ (z : List Term). t ∷ z) e
     go false e = e
 
-pub joins-step : (p : Term → Bool) (b : List Term) (t : Term) (l : List Term)
-    → keep p (joins (t ∷ l) b) ≡ keep p (joinsWith t b) ++ keep p (joins l b)
-joins-step p b t l = keep-append p (joinsWith t b) (joins l b)
-
 with-step : (t u : Term) (l : List Term) → joinsWith t (u ∷ l) ≡ joinsWith t (u ∷ []) ++ joinsWith t l
 with-step t u l = go (conflict t u)
   where
@@ -168,5 +164,5 @@ joiningOne p t =
       more = each-step p t;
     }
 
-abbrev pub joiningAll : (Term → Bool) → List Term → Steps
-joiningAll p b = record { all = λ l. keep p (joins l b); one = λ t. keep p (joinsWith t b); none = refl; more = joins-step p b }
+abbrev pub joiningAll : Bool → List Term → List Term → Steps
+joiningAll least a b = record { all = madeEach least a b; one = madeWith least a b; none = refl; more = λ t l. refl }

@@ -1,12 +1,13 @@
 -- What the builder makes of lists of terms. No public contract rests on these.
 use Prim.Native.Nat.{ℕ}
-use mathlib.Core.Bool.{Bool, true, false, _&&_, not}
+use mathlib.Core.Bool.{Bool, true, false, _&&_, not, cond}
 use mathlib.Core.List.{List, [], _∷_, _++_}
-use Rattle.terms.specs.Lists.{keep, insert}
+use Rattle.terms.specs.Lists.{any, keep, insert}
 use Rattle.terms.specs.Order.{before}
+use Rattle.terms.specs.Term.{inside}
 use Rattle.terms.specs.declared.Term.{Term}
--- each term of one list joined with each of another, with one term, and the terms of one side extended
-pub use Rattle.terms.proofs.Built.{joins, joinsWith, extended}
+-- the terms of a list joined with one term, and the terms of one side extended
+pub use Rattle.terms.proofs.Built.{joinsWith, extended}
 use Rattle.lists.specs.Scans.{shorterJoin}
 use Rattle.insertion.specs.Filled.{held, Filled}
 use Rattle.insertion.specs.declared.Kept.{Kept}
@@ -24,9 +25,21 @@ Added l s count s′ k = Filled (insertAll l (held s count)) s s′ k
 abbrev pub allowed : Bool → List Term → List Term → Term → Bool
 allowed least a b t = not (least && shorterJoin a b t)
 
+-- only the least are asked for, and t is one by itself: some term of b is inside
+abbrev pub alone : Bool → List Term → Term → Bool
+alone least b t = least && any (λ u. inside u t) b
+
+-- the joins of t with the terms of b that are kept; of a term that is one by itself no other is
+abbrev pub madeWith : Bool → List Term → List Term → Term → List Term
+madeWith least a b t = cond (alone least b t) (t ∷ []) (keep (allowed least a b) (joinsWith t b))
+
+abbrev pub madeEach : Bool → List Term → List Term → List Term → List Term
+madeEach least a b [] = []
+madeEach least a b (t ∷ l) = madeWith least a b t ++ madeEach least a b l
+
 -- the joins of two lists that are kept
 abbrev pub madeJoins : Bool → List Term → List Term → List Term
-madeJoins least a b = keep (allowed least a b) (joins a b)
+madeJoins least a b = madeEach least a b a
 
 -- the terms of a decision by x
 abbrev pub madeDecision : ℕ → List Term → List Term → List Term

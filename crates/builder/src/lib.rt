@@ -7,7 +7,7 @@ ghost use lib.ListN.{length};
 ghost use Rattle.terms.specs.Lists.{keep};
 ghost use Rattle.lists.specs.Scans.{termsOf};
 ghost use Rattle.insertion.specs.Filled.{bySign};
-ghost use Rattle.builder.specs.Made.{joinsWith, extended, allowed, madeJoins, madeDecision, Added};
+ghost use Rattle.builder.specs.Made.{joinsWith, extended, allowed, alone, madeWith, madeJoins, madeDecision, Added};
 use insertion::Kept;
 use terms::Term;
 
@@ -141,6 +141,42 @@ fn join_each(
     Kept::Count(count)
 }
 
+// The term t is the only join of t to be kept: only the least are asked for, and some term of the list b is inside t.
+fn is_alone(least: bool, bp: &[u64], bn: &[u64], t: Term) -> bool
+    requires { ⌜ length (now bn) ≡ length (now bp) ⌝ }
+    ensures { λ r. ⌜ r ≡ alone least (termsOf (now (bp .entry)) (now (bn .entry))) t ⌝ }
+{
+    if least {
+        return lists::holds_one(bp, bn, t);
+    }
+    false
+}
+
+// Adds the joins of t with the terms of the list b that are to be kept, without a look at them where t is the only one.
+fn join_with(
+    positives: &mut [u64],
+    negatives: &mut [u64],
+    count: usize,
+    least: bool,
+    ap: &[u64],
+    an: &[u64],
+    bp: &[u64],
+    bn: &[u64],
+    t: Term,
+) -> Kept
+    requires { ⌜ (count ≤ length (now positives)) × (length (now negatives) ≡ length (now positives)) ⌝ }
+    requires { ⌜ (length (now an) ≡ length (now ap)) × (length (now bn) ≡ length (now bp)) ⌝ }
+    ensures { λ r. ⌜ Added
+        (madeWith least (termsOf (now (ap .entry)) (now (an .entry))) (termsOf (now (bp .entry)) (now (bn .entry))) t)
+        (bySign (now (positives .entry)) (now (negatives .entry))) count
+        (bySign (now (positives .exit)) (now (negatives .exit))) r ⌝ }
+{
+    if is_alone(least, bp, bn, t) {
+        return insertion::insert(positives, negatives, count, t);
+    }
+    join_each(positives, negatives, count, least, ap, an, bp, bn, t)
+}
+
 // Adds the joins of the terms of a with the terms of b, or only the least of them.
 fn join_all(
     positives: &mut [u64],
@@ -162,7 +198,7 @@ fn join_all(
     let mut k = 0;
     while k < ap.len() {
         let t = lists::term_at(ap, an, k);
-        let Kept::Count(c) = join_each(positives, negatives, count, least, ap, an, bp, bn, t) else {
+        let Kept::Count(c) = join_with(positives, negatives, count, least, ap, an, bp, bn, t) else {
             return Kept::Full;
         };
         count = c;

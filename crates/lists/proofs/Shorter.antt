@@ -1,21 +1,23 @@
 -- The code's search for a shorter join, and that it finds one exactly if some join is inside the term and has fewer literals.
 use Prim.Native.Nat.{ℕ, _<_, _≤_}
-use mathlib.Core.Path.{_≡_, refl, ap, subst}
-use mathlib.Core.Bool.{Bool, _&&_, not}
+use mathlib.Core.Path.{_≡_, refl, sym, ap, subst}
+use mathlib.Core.Bool.{Bool, true, false, _&&_, not, cond}
 use mathlib.Core.Logic.{⊎-elim}
-use mathlib.Core.List.{List, List·Memᴰ}
+use mathlib.Core.List.{List, [], _∷_, List·Memᴰ, List·Memᴰ·not-nil, List·Memᴰ·cases-cons}
 use native.Mathlib.Omega.{arith}
+use lib.Bits.{bitAnd}
 use lib.Dec.{T, T-not, not-T, eqb, ltb, eqb→eq, eqb-refl, ltb→lt, nltb→le}
-use Rattle.masks.specs.Mask.{width}
-use Rattle.masks.proofs.Tests.{and-i, and-l, and-r, decide, same-test}
+use Rattle.masks.specs.Mask.{width, bit}
+use Rattle.masks.proofs.Operators.{bit-and}
+use Rattle.masks.proofs.Tests.{and-i, and-l, and-r, decide, is-true, along, same-test}
 use Rattle.terms.specs.Lists.{any}
-use Rattle.terms.specs.Term.{literals, join, inside}
+use Rattle.terms.specs.Term.{term, has, literals, join, inside}
 use Rattle.terms.specs.declared.Term.{Term}
 use Rattle.terms.proofs.Built.{joins, holdsShorter, joins-in, joins-out, conflict-free, joined-free, as-long, JoinOf}
 use Rattle.terms.proofs.Sorted.{any-i, any-e}
 use Rattle.terms.proofs.Terms.{Inside, inside-trans, join-l, join-r, join-least, term-ext, join-isTerm, join-within, inside-e}
 use Rattle.terms.proofs.Terms.{inside-i, IsTerm}
-use Rattle.lists.specs.Scans.{same, completes, shorterJoin}
+use Rattle.lists.specs.Scans.{same, completes, narrowed, commonOf, shorterJoin}
 
 pub same-e : (t u : Term) → T (same t u) → t ≡ u
 unfolding same
@@ -35,6 +37,40 @@ same-i t u e =
 -- the list is of terms over N variables
 abbrev pub Terms : ℕ → List Term → Type 0
 Terms N l = (t : Term) → List·Memᴰ t l → IsTerm N t
+
+-- ---- what the terms of a list have in common
+narrowed-first : (t c b : Term) → Inside (narrowed t c b) c
+unfolding narrowed
+narrowed-first t c b = go (inside b t)
+  where
+    go : (q : Bool) → Inside (cond q (term (bitAnd (c .positive) (b .positive)) (bitAnd (c .negative) (b .negative))) c) c
+    go true x true h = and-l (bit (c .positive) x) (bit (b .positive) x) (along (bit-and (c .positive) (b .positive) x) h)
+    go true x false h = and-l (bit (c .negative) x) (bit (b .negative) x) (along (bit-and (c .negative) (b .negative) x) h)
+    go false x s h = h
+
+narrowed-second : (t c b : Term) → T (inside b t) → Inside (narrowed t c b) b
+unfolding narrowed
+narrowed-second t c b i =
+    subst (λ (q : Bool). Inside (cond q (term (bitAnd (c .positive) (b .positive)) (bitAnd (c .negative) (b .negative))) c) b)
+    (sym (is-true (inside b t) i)) go
+  where
+    go : Inside (term (bitAnd (c .positive) (b .positive)) (bitAnd (c .negative) (b .negative))) b
+    go x true h = and-r (bit (c .positive) x) (bit (b .positive) x) (along (bit-and (c .positive) (b .positive) x) h)
+    go x false h = and-r (bit (c .negative) x) (bit (b .negative) x) (along (bit-and (c .negative) (b .negative) x) h)
+
+common-first : (t c : Term) (l : List Term) → Inside (commonOf t c l) c
+common-first t c [] x s h = h
+common-first t c (b ∷ l) x s h = narrowed-first t c b x s (common-first t (narrowed t c b) l x s h)
+
+common-each : (t c : Term) (l : List Term) (b : Term) → List·Memᴰ b l → T (inside b t) → Inside (commonOf t c l) b
+common-each t c [] b m i x s h = absurd (List·Memᴰ·not-nil m)
+common-each t c (d ∷ l) b m i x s h =
+    ⊎-elim
+    (λ (e : b ≡ d).
+    let j : T (inside d t) = subst (λ (z : Term). T (inside z t)) e i in
+    subst (λ (z : Term). T (has z s x)) (sym e) (narrowed-second t c d j x s (common-first t (narrowed t c d) l x s h)))
+    (λ (n : List·Memᴰ b l). common-each t (narrowed t c d) l b n i x s h)
+    (List·Memᴰ·cases-cons m)
 
 module _ (N : ℕ) (wide : N ≤ width) where
   -- a term inside t that is not t has fewer literals
@@ -59,12 +95,30 @@ module _ (N : ℕ) (wide : N ≤ width) where
     abbrev test : Term → Bool
     test u = inside u t && ltb (literals u) (literals t)
 
+    abbrev common : Term
+    common = commonOf t t k
+
+    -- where a and some b of the list lack a literal of t, so do a and what all have in common
+    lacks : (a b : Term) → List·Memᴰ a l → List·Memᴰ b k → Inside a t → T (inside b t) → T (not (same (join a b) t))
+        → T (not (same (join common a) t))
+    lacks a b ma mb ia ib n =
+        not-T (same (join common a) t)
+        (λ s.
+        let e : join common a ≡ t = same-e (join common a) t s in
+        let jb : Inside b t = inside-e N wide b t (hk b mb) ib in
+        let each : Inside (join common a) (join a b) =
+        join-least common a (join a b) (inside-trans common b (join a b) (common-each t t k b mb ib) (join-r a b)) (join-l a b) in
+        let back : Inside t (join a b) = subst (λ (z : Term). Inside z (join a b)) e each in
+        let j : IsTerm N (join a b) = join-within N a b t (hl a ma) (hk b mb) w ia jb in
+        T-not (same (join a b) t) n (same-i (join a b) t (term-ext N (join a b) t j w (join-least a b t ia jb) back)))
+
     found : T (shorterJoin l k t) → T (holdsShorter (joins l k) t)
     unfolding shorterJoin completes
     found s =
-        let (a, ma, pa) = any-e (λ a. inside a t && any (completes t a) k) l s in
-        let (b, mb, pb) = any-e (completes t a) k (and-r (inside a t) (any (completes t a) k) pa) in
-        let ia : Inside a t = inside-e N wide a t (hl a ma) (and-l (inside a t) (any (completes t a) k) pa) in
+        let (a, ma, pa) = any-e (λ a. completes t common a && any (completes t a) k) l s in
+        let (b, mb, pb) = any-e (completes t a) k (and-r (completes t common a) (any (completes t a) k) pa) in
+        let ca : T (completes t common a) = and-l (completes t common a) (any (completes t a) k) pa in
+        let ia : Inside a t = inside-e N wide a t (hl a ma) (and-l (inside a t) (not (same (join common a) t)) ca) in
         let ib : Inside b t = inside-e N wide b t (hk b mb) (and-l (inside b t) (not (same (join a b) t)) pb) in
         let j : IsTerm N (join a b) = join-within N a b t (hl a ma) (hk b mb) w ia ib in
         let i : Inside (join a b) t = join-least a b t ia ib in
@@ -85,11 +139,15 @@ module _ (N : ℕ) (wide : N ≤ width) where
         let i : Inside (join a b) t =
         inside-e N wide (join a b) t j (and-l (inside (join a b) t) (ltb (literals (join a b)) (literals t)) p′) in
         let fits : (v : Term) → Inside v (join a b) → T (inside v t) = λ v q. inside-i N v t (inside-trans v (join a b) t q i) in
-        any-i (λ a. inside a t && any (completes t a) k) l a (o .in-left)
-        (and-i (inside a t) (any (completes t a) k) (fits a (join-l a b))
-        (any-i (completes t a) k b (o .in-right)
-        (and-i (inside b t) (not (same (join a b) t)) (fits b (join-r a b))
-        (fewer-not (join a b) t (and-r (inside (join a b) t) (ltb (literals (join a b)) (literals t)) p′)))))
+        let differs : T (not (same (join a b) t)) =
+        fewer-not (join a b) t (and-r (inside (join a b) t) (ltb (literals (join a b)) (literals t)) p′) in
+        let ib : T (inside b t) = fits b (join-r a b) in
+        let ca : T (completes t common a) =
+        and-i (inside a t) (not (same (join common a) t)) (fits a (join-l a b))
+        (lacks a b (o .in-left) (o .in-right) (inside-trans a (join a b) t (join-l a b) i) ib differs) in
+        any-i (λ a. completes t common a && any (completes t a) k) l a (o .in-left)
+        (and-i (completes t common a) (any (completes t a) k) ca
+        (any-i (completes t a) k b (o .in-right) (and-i (inside b t) (not (same (join a b) t)) ib differs)))
 
     pub shorter-joins : shorterJoin l k t ≡ holdsShorter (joins l k) t
     shorter-joins = same-test (shorterJoin l k t) (holdsShorter (joins l k) t) found finds

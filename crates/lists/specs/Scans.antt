@@ -1,7 +1,8 @@
 -- Lists of terms as the code holds them, and the searches in them. No public contract rests on these.
 use Prim.Native.Nat.{ℕ}
-use mathlib.Core.Bool.{Bool, _&&_, not}
+use mathlib.Core.Bool.{Bool, _&&_, not, cond}
 use mathlib.Core.List.{List, [], _∷_}
+use lib.Bits.{bitAnd}
 use lib.Dec.{eqb}
 use lib.ListN.{getD}
 use Rattle.terms.specs.Lists.{any}
@@ -26,6 +27,16 @@ same t u = eqb (t .positive) (u .positive) && eqb (t .negative) (u .negative)
 unfoldable pub completes : Term → Term → Term → Bool
 completes t a b = inside b t && not (same (join a b) t)
 
--- some term of the one list and some of the other are inside t, and their join is not t
+-- the literals of c that b has too, if b is inside t; else all of c's
+unfoldable pub narrowed : Term → Term → Term → Term
+narrowed t c b = cond (inside b t) (term (bitAnd (c .positive) (b .positive)) (bitAnd (c .negative) (b .negative))) c
+
+-- the literals of c that every term of the list inside t has
+abbrev pub commonOf : Term → Term → List Term → Term
+commonOf t c [] = c
+commonOf t c (b ∷ l) = commonOf t (narrowed t c b) l
+
+-- some term of the one list and some of the other are inside t, and their join is not t; where the join with what all terms
+-- of the other have in common is t already, there is no need to look at them
 unfoldable pub shorterJoin : List Term → List Term → Term → Bool
-shorterJoin l k t = any (λ a. inside a t && any (completes t a) k) l
+shorterJoin l k t = any (λ a. completes t (commonOf t t k) a && any (completes t a) k) l

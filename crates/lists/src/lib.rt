@@ -4,7 +4,7 @@ ghost use Prim.Native.Nat.{_<_};
 ghost use lib.ListN.{length};
 ghost use Rattle.terms.specs.Lists.{any};
 ghost use Rattle.terms.specs.Term.{inside};
-ghost use Rattle.lists.specs.Scans.{termsOf, termAt, same, completes, shorterJoin};
+ghost use Rattle.lists.specs.Scans.{termsOf, termAt, same, completes, narrowed, commonOf, shorterJoin};
 use terms::Term;
 
 // Term k of the list.
@@ -40,23 +40,52 @@ pub fn holds_one(positives: &[u64], negatives: &[u64], t: Term) -> bool
     false
 }
 
-// b is inside t, and its join with a, which is inside t too, lacks a literal of t.
+// b is inside t, and its join with a lacks a literal of t.
 fn is_short(t: Term, a: Term, b: Term) -> bool
     ensures { λ r. ⌜ r ≡ completes t a b ⌝ }
 {
     terms::inside(b, t) & !is_same(terms::join(a, b), t)
 }
 
-// Some term of the list a and some of the list b are inside t, and their join lacks a literal of t.
+// The literals of c that b has too, if b is inside t; else all of c's.
+fn narrow(t: Term, c: Term, b: Term) -> Term
+    ensures { λ r. ⌜ r ≡ narrowed t c b ⌝ }
+{
+    if terms::inside(b, t) {
+        return Term {
+            positive: c.positive & b.positive,
+            negative: c.negative & b.negative,
+        };
+    }
+    c
+}
+
+// The literals of t that every term of the list inside t has.
+fn common(positives: &[u64], negatives: &[u64], t: Term) -> Term
+    requires { ⌜ length (now negatives) ≡ length (now positives) ⌝ }
+    ensures { λ r. ⌜ r ≡ commonOf t t (termsOf (now (positives .entry)) (now (negatives .entry))) ⌝ }
+{
+    let mut c = t;
+    let mut k = 0;
+    while k < positives.len() {
+        c = narrow(t, c, term_at(positives, negatives, k));
+        k += 1;
+    }
+    c
+}
+
+// Some term of the list a and some of the list b are inside t, and their join lacks a literal of t. The inner loop is entered only
+// where it finds one: the join of a with what all of b inside t have in common lacks a literal too.
 pub fn holds_shorter(ap: &[u64], an: &[u64], bp: &[u64], bn: &[u64], t: Term) -> bool
     requires { ⌜ (length (now an) ≡ length (now ap)) × (length (now bn) ≡ length (now bp)) ⌝ }
     ensures { λ r. ⌜ r ≡ shorterJoin (termsOf (now (ap .entry)) (now (an .entry))) (termsOf (now (bp .entry)) (now (bn .entry))) t ⌝ }
 {
+    let shared = common(bp, bn, t);
     let mut found = false;
     let mut k = 0;
     'pairs: while k < ap.len() {
         let a = term_at(ap, an, k);
-        if terms::inside(a, t) {
+        if is_short(t, shared, a) {
             let mut l = 0;
             while l < bp.len() {
                 let b = term_at(bp, bn, l);

@@ -1,13 +1,14 @@
 -- For a node of an accepted table, what is made of its children's prime implicants is its prime implicants.
 use Prim.Native.Nat.{ℕ, _<_, _≤_, zero-le}
 use mathlib.Core.Path.{_≡_, refl, sym, ap, ap₂, subst, _∙_}
-use mathlib.Core.Bool.{Bool, false, and-true}
+use mathlib.Core.Bool.{Bool, true, false, and-true}
 use mathlib.Core.List.{List, [], _∷_, List·Memᴰ·head, List·Memᴰ·tail}
 use native.Mathlib.Omega.{arith}
 use Rattle.masks.specs.Mask.{width}
 use Rattle.terms.specs.Prime.{primes}
 use Rattle.terms.specs.declared.Term.{Term}
-use Rattle.terms.proofs.Built.{joins, decisionTerms, joins-lists, decision-lists}
+use Rattle.terms.proofs.Built.{joins, joins-lists, decision-with}
+use Rattle.terms.proofs.Conjunctions.{conj}
 use Rattle.terms.proofs.Decisions.{choice}
 use Rattle.terms.proofs.Listed.{primes-lists, Lists}
 use Rattle.circuits.specs.Function.{function}
@@ -21,7 +22,7 @@ use Rattle.circuits.proofs.Rows.{nodeTerms, termsAt, terms-local, terms-primes}
 use Rattle.circuits.proofs.Tables.{Fits, children-below}
 use Rattle.lists.proofs.Shorter.{Terms}
 use Rattle.builder.specs.Made.{insertAll, madeJoins, madeDecision}
-use Rattle.builder.proofs.Complete.{inserted-primes, all-joins, decision-made}
+use Rattle.builder.proofs.Complete.{inserted-primes, all-joins, made-lists}
 use Rattle.nodes.specs.Part.{nodeMade, childAt, Ready}
 
 module _ (N n : ℕ) (w : List ℕ) (acc : Accepted N n w) where
@@ -49,9 +50,11 @@ module _ (N n : ℕ) (w : List ℕ) (acc : Accepted N n w) where
     decision-exact : (x a b : ℕ) → nodeAt w i ≡ decision x a b → insertAll (madeDecision x (rows a) (rows b)) [] ≡ rows i
     decision-exact x a b e =
         let f : Fits N i (decision x a b) = node-fits N n w acc i (decision x a b) l e in
-        ap (λ (k : List Term). insertAll k []) (decision-made N wide x (rows a) (rows b) (are-terms a) (are-terms b))
-        ∙ inserted-primes N (choice (sides w a b) x) (decisionTerms x (rows a) (rows b))
-        (decision-lists N wide (sides w a b) x (f .0) (decision-free N n w acc i x a b l e) (rows a) (rows b) (listed a) (listed b))
+        let made : Lists N (conj N (function w a) (function w b)) (madeJoins true (rows a) (rows b)) =
+        made-lists N wide (function w a) (function w b) (rows a) (rows b) (listed a) (listed b) in
+        inserted-primes N (choice (sides w a b) x) (madeDecision x (rows a) (rows b))
+        (decision-with N wide (sides w a b) x (f .0) (decision-free N n w acc i x a b l e) (rows a) (rows b)
+        (madeJoins true (rows a) (rows b)) (listed a) (listed b) made)
         ∙ ap (primes N) (sym (function-is N n w acc i (decision x a b) l e))
 
     conjunction-exact : (a b : ℕ) → nodeAt w i ≡ conjunction (a ∷ b ∷ []) → insertAll (madeJoins false (rows a) (rows b)) [] ≡ rows i

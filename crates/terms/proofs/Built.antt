@@ -264,39 +264,41 @@ module _ (N : ℕ) (wide : N ≤ width) where
         (keep-in (λ t. not (holdsOne other t)) k rest (lk .every rest cr)
         (not-T (holdsOne other rest) (λ h. n (implicant-listed (F (not b)) other lo rest (cr .isTerm) h)))))
 
-    pub decision-lists : (a b : List Term) → Lists N (F false) a → Lists N (F true) b
-        → Lists N (choice F x) (decisionTerms x a b)
-    unfolding decisionTerms
-    decision-lists a b la lb = record { only = only; every = all }
+    -- m lists the prime implicants of both sides
+    pub decision-with : (a b m : List Term) → Lists N (F false) a → Lists N (F true) b → Lists N (conj N (F false) (F true)) m
+        → Lists N (choice F x) (extended x false b a ++ (extended x true a b ++ m))
+    decision-with a b m la lb lm = record { only = only; every = all }
       where
-        least : Lists N (conj N (F false) (F true)) (leastOf (joins a b))
-        least = least-lists (F false) (F true) a b la lb
-
-        only : (t : Term) → List·Memᴰ t (extended x false b a ++ (extended x true a b ++ leastOf (joins a b)))
+        only : (t : Term) → List·Memᴰ t (extended x false b a ++ (extended x true a b ++ m))
             → Prime N (choice F x) t
-        only t m =
+        only t n =
             ⊎-elim (λ (k : List·Memᴰ t (extended x false b a)). extended-out false a b la lb t k)
-            (λ (k : List·Memᴰ t (extended x true a b ++ leastOf (joins a b))).
+            (λ (k : List·Memᴰ t (extended x true a b ++ m)).
             ⊎-elim (λ (q : List·Memᴰ t (extended x true a b)). extended-out true b a lb la t q)
-            (λ (q : List·Memᴰ t (leastOf (joins a b))). meet-prime N F x l free t (least .only t q))
+            (λ (q : List·Memᴰ t (m)). meet-prime N F x l free t (lm .only t q))
             (List·Memᴰ·append-cases (extended x true a b) k))
-            (List·Memᴰ·append-cases (extended x false b a) m)
+            (List·Memᴰ·append-cases (extended x false b a) n)
 
         none : (t : Term) → T (not (has t false x)) → T (not (has t true x)) → Unmentioned t x
         none t p q true h = T-not (has t true x) q h
         none t p q false h = T-not (has t false x) p h
 
         all : (t : Term) → Prime N (choice F x) t
-            → List·Memᴰ t (extended x false b a ++ (extended x true a b ++ leastOf (joins a b)))
+            → List·Memᴰ t (extended x false b a ++ (extended x true a b ++ m))
         all t c =
             ⊎-elim
             (λ (p : T (has t false x)).
-            Memᴰ·append-left (extended x true a b ++ leastOf (joins a b)) (extended-in false a b la lb t p c))
+            Memᴰ·append-left (extended x true a b ++ m) (extended-in false a b la lb t p c))
             (λ (n : T (not (has t false x))).
             Memᴰ·append-right (extended x false b a)
             (⊎-elim
-            (λ (p : T (has t true x)). Memᴰ·append-left (leastOf (joins a b)) (extended-in true b a lb la t p c))
+            (λ (p : T (has t true x)). Memᴰ·append-left (m) (extended-in true b a lb la t p c))
             (λ (n′ : T (not (has t true x))).
-            Memᴰ·append-right (extended x true a b) (least .every t (no-literal N F x l free t (none t n n′) c)))
+            Memᴰ·append-right (extended x true a b) (lm .every t (no-literal N F x l free t (none t n n′) c)))
             (decide (has t true x))))
             (decide (has t false x))
+
+    pub decision-lists : (a b : List Term) → Lists N (F false) a → Lists N (F true) b
+        → Lists N (choice F x) (decisionTerms x a b)
+    unfolding decisionTerms
+    decision-lists a b la lb = decision-with a b (leastOf (joins a b)) la lb (least-lists (F false) (F true) a b la lb)

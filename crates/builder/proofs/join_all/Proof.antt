@@ -13,14 +13,14 @@ use Rattle.insertion.specs.Filled.{bySign}
 use Rattle.insertion.specs.declared.Kept.{Kept}
 use Rattle.insertion.specs.declared.Kept.the-variants.{Count, Full}
 use Rattle.insertion.proofs.Parts.{Even, even}
-use Rattle.builder.specs.Made.{Added, allowed}
+use Rattle.builder.specs.Made.{Added}
 use Rattle.builder.proofs.Turns.{allMade, turn-start, turn-length, turn-fits, turn-end, turn-full, turn-next, joiningAll}
 use Rattle.builder.proofs.Turns.{Steps, Turn}
 use Rattle.builder.proofs.join_all.Statement.{statement}
 use Rattle.builder.proofs.join_all.Tie as tie
 
 abbrev steps : Bool → List Term → List Term → Steps
-steps least a b = joiningAll (allowed least a b) b
+steps least a b = joiningAll least a b
 
 abbrev Inv-loop : tie.InvT-loop
 Inv-loop ps₀ ns₀ start least ap an bp bn count₀ k₀ ps ns count k =
@@ -34,7 +34,7 @@ abbrev Loop : Type 0
 Loop = tie.At-loop Inv-loop μ-loop
 
 abbrev Called : Type 0
-Called = tie.After-join-each Inv-loop μ-loop
+Called = tie.After-join-with Inv-loop μ-loop
 
 abbrev start : Loop → tie.Start Inv-loop μ-loop
 start a = a .before .before .before .before .before .before .before
@@ -50,7 +50,7 @@ abbrev now : Loop → Bool → List ℕ
 now a = bySign (a .loop .positives) (a .loop .negatives)
 
 abbrev then : Called → Bool → List ℕ
-then p = bySign (p .join-each .last .0) (p .join-each .last .1 .0)
+then p = bySign (p .join-with .last .0) (p .join-with .last .1 .0)
 
 evens : (a : Loop) → Even (first a)
 evens a = even (start a .args .positives .now) (start a .args .negatives .now) (start a .pre .0 .1)
@@ -66,7 +66,7 @@ sizes a =
     (a .loop .inv)
 
 -- what was inserted for term k
-told : (p : Called) (r : Kept) → p .join-each .result ≡ r
+told : (p : Called) (r : Kept) → p .join-with .result ≡ r
     → let a = turn p in
     let x = start a .args in
     Added (making a .one (termAt (x .ap .now) (x .an .now) (a .loop .k))) (now a) (a .loop .count) (then p) r
@@ -75,8 +75,8 @@ told p r e =
     let x = start a .args in
     subst
     (λ (q : Kept). Added (making a .one (termAt (x .ap .now) (x .an .now) (a .loop .k))) (now a) (a .loop .count) (then p) q) e
-    (subst (λ (t : Term). Added (making a .one t) (now a) (a .loop .count) (then p) (p .join-each .result))
-    (p .before .before .before .term-at .ensures) (p .join-each .ensures))
+    (subst (λ (t : Term). Added (making a .one t) (now a) (a .loop .count) (then p) (p .join-with .result))
+    (p .before .before .before .term-at .ensures) (p .join-with .ensures))
 
 loop-holds : tie.Need-loop-holds Inv-loop μ-loop
 loop-holds c =
@@ -93,8 +93,8 @@ term-at-requires c κs =
     let s = start a in
     omega (arith, c .loop-test .taken, s .pre .1)
 
-join-each-requires : tie.Need-join-each-requires Inv-loop μ-loop
-join-each-requires c κs =
+join-with-requires : tie.Need-join-with-requires Inv-loop μ-loop
+join-with-requires c κs =
     let a = c .before .before .before .before in
     let s = start a in
     let x = s .args in
@@ -112,10 +112,10 @@ enum-told : tie.Need-enum-told Inv-loop μ-loop
 enum-told c = search needs
 
 same-length : tie.Need-same-length Inv-loop μ-loop
-same-length c = let p = c .before .before .before .before .before .before in p .join-each .kept .0 ∙ sizes (turn p) true
+same-length c = let p = c .before .before .before .before .before .before in p .join-with .kept .0 ∙ sizes (turn p) true
 
 same-length-2 : tie.Need-same-length-2 Inv-loop μ-loop
-same-length-2 c = let p = c .before .before .before .before .before .before in p .join-each .kept .1 .0 ∙ sizes (turn p) false
+same-length-2 c = let p = c .before .before .before .before .before .before in p .join-with .kept .1 .0 ∙ sizes (turn p) false
 
 returns : tie.Need-returns Inv-loop μ-loop
 returns c =
@@ -168,7 +168,7 @@ join-all-spec =
     μ-loop
     loop-holds
     term-at-requires
-    join-each-requires
+    join-with-requires
     enum-known-c
     enum-told
     same-length

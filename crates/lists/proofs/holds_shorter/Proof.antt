@@ -9,58 +9,62 @@ use native.Mathlib.Omega.{arith}
 use lib.ListN.{length, drop}
 use borrow.Author.Needs.{needs}
 use Rattle.terms.specs.Lists.{any}
-use Rattle.terms.specs.Term.{inside}
 use Rattle.terms.specs.declared.Term.{Term}
-use Rattle.lists.specs.Scans.{termsOf, termAt, completes, shorterJoin}
+use Rattle.lists.specs.Scans.{termsOf, termAt, completes, commonOf, shorterJoin}
 use Rattle.lists.proofs.Parts.{any-miss, any-hit, any-end}
 use Rattle.lists.proofs.holds_shorter.Statement.{statement}
 use Rattle.lists.proofs.holds_shorter.Tie as tie
 
 abbrev Inv-loop : tie.InvT-loop
-Inv-loop ap an bp bn t found₀ k a l₀ found l =
+Inv-loop ap an bp bn t shared found₀ k a l₀ found l =
     (l ≤ length bp) × (found ≡ false)
     × (any (completes t a) (drop l (termsOf bp bn)) ≡ any (completes t a) (termsOf bp bn))
 
 abbrev μ-loop : tie.MeasureT-loop
-μ-loop ap an bp bn t found₀ k a l₀ found l = length bp - l
+μ-loop ap an bp bn t shared found₀ k a l₀ found l = length bp - l
 
 abbrev Inv-pairs : tie.InvT-pairs
-Inv-pairs ap an bp bn t found₀ k₀ found k =
+Inv-pairs ap an bp bn t shared found₀ k₀ found k =
     (k ≤ length ap) × (found ≡ false)
     × (shorterJoin (drop k (termsOf ap an)) (termsOf bp bn) t ≡ shorterJoin (termsOf ap an) (termsOf bp bn) t)
 
 abbrev μ-pairs : tie.MeasureT-pairs
-μ-pairs ap an bp bn t found₀ k₀ found k = length ap - k
+μ-pairs ap an bp bn t shared found₀ k₀ found k = length ap - k
 
 -- the test of one term of the first list
 abbrev left : Term → List Term → Term → Bool
-left t k a = inside a t && any (completes t a) k
+left t k a = completes t (commonOf t t k) a && any (completes t a) k
 
 -- what the inner test said of term l
-tested : (c : tie.After-is-short Inv-loop μ-loop Inv-pairs μ-pairs) (b : Bool) → c .is-short .result ≡ b
+tested : (c : tie.After-is-short2 Inv-loop μ-loop Inv-pairs μ-pairs) (b : Bool) → c .is-short2 .result ≡ b
     → let i = c .before .before .before in
     let p = i .before .before .before in
-    let x = p .before .before .before .before .before .before .before .args in
+    let x = p .before .before .before .before .before .before .before .before .args in
     completes (x .t) (p .term-at .result) (termAt (x .bp .now) (x .bn .now) (i .loop .l)) ≡ b
 tested c b e =
     let p = c .before .before .before .before .before .before in
-    let x = p .before .before .before .before .before .before .before .args in
-    sym (ap (completes (x .t) (p .term-at .result)) (c .before .term-at2 .ensures)) ∙ sym (c .is-short .ensures) ∙ e
+    let x = p .before .before .before .before .before .before .before .before .args in
+    sym (ap (completes (x .t) (p .term-at .result)) (c .before .term-at2 .ensures)) ∙ sym (c .is-short2 .ensures) ∙ e
 
 -- what both tests say of term k
-outer : (c : tie.After-inside Inv-loop μ-loop Inv-pairs μ-pairs) (b d : Bool) → c .inside .result ≡ b
+outer : (c : tie.After-is-short Inv-loop μ-loop Inv-pairs μ-pairs) (b d : Bool) → c .is-short .result ≡ b
     → let p = c .before .before .before in
-    let x = p .before .before .before .before .before .args in
+    let x = p .before .before .before .before .before .before .args in
     (b && any (completes (x .t) (c .before .term-at .result)) (termsOf (x .bp .now) (x .bn .now))) ≡ d
     → left (x .t) (termsOf (x .bp .now) (x .bn .now)) (termAt (x .ap .now) (x .an .now) (p .pairs .k)) ≡ d
 outer c b d e h =
     let p = c .before .before .before in
-    let x = p .before .before .before .before .before .args in
+    let x = p .before .before .before .before .before .before .args in
     let B : List Term = termsOf (x .bp .now) (x .bn .now) in
     let a : Term = c .before .term-at .result in
+    let shared : completes (x .t) (commonOf (x .t) (x .t) B) a ≡ b =
+    sym (ap (λ (z : Term). completes (x .t) z a) (p .before .common .ensures)) ∙ sym (c .is-short .ensures) ∙ e in
     sym (ap (left (x .t) B) (c .before .term-at .ensures))
-    ∙ ap (λ (q : Bool). q && any (completes (x .t) a) B) (sym (c .inside .ensures) ∙ e)
+    ∙ ap (λ (q : Bool). q && any (completes (x .t) a) B) shared
     ∙ h
+
+common-requires : tie.Need-common-requires Inv-loop μ-loop Inv-pairs μ-pairs
+common-requires c κs = search needs
 
 pairs-holds : tie.Need-pairs-holds Inv-loop μ-loop Inv-pairs μ-pairs
 pairs-holds c = search needs
@@ -68,8 +72,8 @@ pairs-holds c = search needs
 term-at-requires : tie.Need-term-at-requires Inv-loop μ-loop Inv-pairs μ-pairs
 term-at-requires c κs = search needs
 
-inside-requires : tie.Need-inside-requires Inv-loop μ-loop Inv-pairs μ-pairs
-inside-requires c κs = search needs
+is-short-requires : tie.Need-is-short-requires Inv-loop μ-loop Inv-pairs μ-pairs
+is-short-requires c κs = search needs
 
 loop-holds : tie.Need-loop-holds Inv-loop μ-loop Inv-pairs μ-pairs
 loop-holds c = search needs
@@ -77,8 +81,8 @@ loop-holds c = search needs
 term-at-requires-2 : tie.Need-term-at-requires-2 Inv-loop μ-loop Inv-pairs μ-pairs
 term-at-requires-2 c κs = search needs
 
-is-short-requires : tie.Need-is-short-requires Inv-loop μ-loop Inv-pairs μ-pairs
-is-short-requires c κs = search needs
+is-short-requires-2 : tie.Need-is-short-requires-2 Inv-loop μ-loop Inv-pairs μ-pairs
+is-short-requires-2 c κs = search needs
 
 add-l : tie.Need-add-l Inv-loop μ-loop Inv-pairs μ-pairs
 add-l c = search needs
@@ -89,7 +93,7 @@ loop-less c = search needs
 loop-again : tie.Need-loop-again Inv-loop μ-loop Inv-pairs μ-pairs
 loop-again c =
     let i = c .before .before .before .before in
-    let s = i .before .before .before .before .before .before .before .before .before .before in
+    let s = i .before .before .before .before .before .before .before .before .before .before .before in
     let x = s .args in
     let a : Term = i .before .before .before .term-at .result in (
       omega arith,
@@ -110,7 +114,7 @@ unfolding shorterJoin
 pairs-again c =
     let i = c .before in
     let p = i .before .before .before in
-    let s = p .before .before .before .before .before in
+    let s = p .before .before .before .before .before .before in
     let x = s .args in
     let B : List Term = termsOf (x .bp .now) (x .bn .now) in
     let a : Term = i .before .term-at .result in
@@ -132,7 +136,7 @@ returns : tie.Need-returns Inv-loop μ-loop Inv-pairs μ-pairs
 unfolding shorterJoin
 returns c =
     let p = c .before in
-    let s = p .before .before .before .before .before in
+    let s = p .before .before .before .before .before .before in
     let x = s .args in
     let B : List Term = termsOf (x .bp .now) (x .bn .now) in
     p .pairs .inv .1
@@ -144,7 +148,7 @@ unfolding shorterJoin
 returns-2 c =
     let i = c .before .before .before .before in
     let p = i .before .before .before .before .before in
-    let s = p .before .before .before .before .before in
+    let s = p .before .before .before .before .before .before in
     let x = s .args in
     let B : List Term = termsOf (x .bp .now) (x .bn .now) in
     let a : Term = i .before .before .before .term-at .result in
@@ -164,12 +168,13 @@ holds-shorter-spec =
     μ-loop
     Inv-pairs
     μ-pairs
+    common-requires
     pairs-holds
     term-at-requires
-    inside-requires
+    is-short-requires
     loop-holds
     term-at-requires-2
-    is-short-requires
+    is-short-requires-2
     add-l
     loop-less
     loop-again

@@ -1,76 +1,19 @@
 // The reading of a circuit text.
 ghost use mathlib.Core.Path.{_≡_};
-ghost use Prim.Native.Nat.{_*_, _≤_};
-ghost use lib.ListN.{length, replicate};
-ghost use Rattle.circuits.specs.Node.{nodeWords};
+ghost use lib.ListN.{length};
 ghost use Rattle.text.specs.Places.{HeaderRuns, ReadIs};
-ghost use Rattle.text.specs.Read.{maxLines, linesAt, headerAt, roomOf, readText};
-use super::form::OWN_KINDS;
-use super::form::form;
+ghost use Rattle.text.specs.Read.{headerAt, readText};
+use super::held::lines_from;
 use buffers::zero_words;
 use text::answer::Fault;
 use text::answer::Reading;
-use text::answer::Step;
 use text::head::InRange;
-use text::head::Limits;
 use text::head::Matched;
 use text::head::literal;
 use text::head::ranged;
 use text::number::CLOSE;
-use text::number::END;
 use text::number::NEWLINE;
 use text::number::byte_at;
-
-// How many nodes there is room for in so many words.
-fn room_of(words: usize) -> u32
-    ensures { λ r. ⌜ (r ≡ roomOf words) × (r ≤ 1024) × (nodeWords * r ≤ words) ⌝ }
-{
-    let q = words / 4;
-    if q < 1024 { q as u32 } else { 1024 }
-}
-
-// How many brackets may be open in one another.
-const MAX_DEPTH: u32 = 16;
-
-// The lines after the header; `nodes` has the node that each earlier line means.
-fn lines(s: &[u8], start: usize, words: &mut [u32], variables: u32) -> Reading
-    requires { ⌜ start ≤ length (now s) ⌝ }
-    ensures { λ r. ⌜ ReadIs r (now (words .exit))
-        (linesAt maxLines (now (s .entry)) variables (roomOf (length (now (words .entry)))) (replicate maxLines 0) 0 start 0
-        (now (words .entry))) ⌝ }
-{
-    let capacity = room_of(words.len());
-    let mut nodes = [0u32; 1025];
-    let mut at = start;
-    let mut n: u32 = 0;
-    let mut k: u32 = 0;
-    while k < 1025 {
-        let limits = Limits {
-            variables,
-            capacity,
-            earlier: k,
-        };
-        match form(s, at, words, n, &nodes, limits, MAX_DEPTH, OWN_KINDS) {
-            Step::Stop(f, p) => {
-                return Reading::Refused(f, p);
-            }
-            Step::Made(p, m, node) => {
-                if byte_at(s, p) != NEWLINE {
-                    return Reading::Refused(Fault::Shape, p);
-                }
-                if byte_at(s, p + 1) == END {
-                    return Reading::Circuit(variables, m);
-                }
-                let i = k as usize;
-                nodes[i] = node;
-                n = m;
-                at = p + 1;
-            }
-        }
-        k = k + 1;
-    }
-    Reading::Refused(Fault::Capacity, at)
-}
 
 // `(circuit N)` and byte 10.
 fn header(s: &[u8]) -> InRange
@@ -100,7 +43,7 @@ pub fn read(text: &[u8], words: &mut [u32]) -> Reading
     }
     match header(text) {
         InRange::Unfit(f, p) => Reading::Refused(f, p),
-        InRange::Inside(v, p) => match lines(text, p, words, v) {
+        InRange::Inside(v, p) => match lines_from(text, p, words, v) {
             Reading::Circuit(variables, n) => Reading::Circuit(variables, n),
             Reading::Refused(f, q) => {
                 zero_words(words);

@@ -65,8 +65,8 @@ enum-known-f c = search needs
 enum-known-v : tie.Need-enum-known-v
 enum-known-v c = search needs
 
-lines-requires : tie.Need-lines-requires
-lines-requires c κs =
+lines-from-requires : tie.Need-lines-from-requires
+lines-from-requires c κs =
     let at-v = c .before .before in
     let at-header = at-v .before .before in
     let start = at-header .before .before .before .before .before .before .before .before in
@@ -103,8 +103,8 @@ returns-3 c =
     let at-zero = at-if1 .before .before .before in
     accepted _ _ _ (at-if1 .if1 .left) _ _ (sym (at-v .v .given .1) ∙ at-header .header .ensures .0) (at-zero .zero-words .last .0)
     (at-zero .zero-words .kept .0)
-    (at-zero .zero-words .ensures) _ _ (sym (ap readingOf (c .before .variables .given .1)) ∙ at-lines .lines .ensures .0)
-    (at-lines .lines .ensures .1)
+    (at-zero .zero-words .ensures) _ _ (sym (ap readingOf (c .before .variables .given .1)) ∙ at-lines .lines-from .ensures .0)
+    (at-lines .lines-from .ensures .1)
 
 same-length-4 : tie.Need-same-length-4
 same-length-4 c = search needs
@@ -118,10 +118,10 @@ returns-4 c =
     let at-header = at-v .before .before in
     let at-if1 = at-header .before in
     let at-zero = at-if1 .before .before .before in
-    let n = at-lines .lines .kept .1 .1 .0 ∙ at-zero .zero-words .kept .0 in
+    let n = at-lines .lines-from .kept .1 .1 .0 ∙ at-zero .zero-words .kept .0 in
     cleared _ _ _ (at-if1 .if1 .left) _ _ (sym (at-v .v .given .1) ∙ at-header .header .ensures .0) (at-zero .zero-words .last .0)
     (at-zero .zero-words .kept .0) (at-zero .zero-words .ensures)
-    (at-f2 .f2 .given .0 .0) (at-f2 .f2 .given .0 .1 .0) (sym (ap readingOf (at-f2 .f2 .given .1)) ∙ at-lines .lines .ensures .0)
+    (at-f2 .f2 .given .0 .0) (at-f2 .f2 .given .0 .1 .0) (sym (ap readingOf (at-f2 .f2 .given .1)) ∙ at-lines .lines-from .ensures .0)
     (at-zero2 .zero-words2 .ensures ∙ ap (λ (k : ℕ). replicate {A = ℕ} k 0) n)
 
 pub read-spec : {M : Type 1} → statement M
@@ -134,7 +134,7 @@ read-spec =
     header-requires
     enum-known-f
     enum-known-v
-    lines-requires
+    lines-from-requires
     enum-known-variables
     enum-known-f-2
     zero-words-requires-2

@@ -1,4 +1,4 @@
--- `text_reader::reader::lines` meets its contract. The invariant: what is left to read from line k on is the whole reading.
+-- `text_reader::lines::lines` meets its contract. The invariant: what is left to read from line k on is the whole reading.
 use Prim.Native.Char.{code}
 use Prim.Native.Nat.{ℕ, suc, _+_, _-_, _*_, _<_, _≤_}
 use mathlib.Core.List.{List}
@@ -17,8 +17,8 @@ use Rattle.text.specs.declared.answer.Reading.the-variants.{Refused, Circuit}
 use Rattle.text.specs.declared.answer.Step.the-variants.{Stop, Made}
 use Rattle.text.specs.declared.answer.Step.{Step}
 use Rattle.text.proofs.Laws.{inside}
-use Rattle.text_reader.proofs.reader.lines.Statement.{statement}
-use Rattle.text_reader.proofs.reader.lines.Tie as tie
+use Rattle.text_reader.proofs.lines.lines.Statement.{statement}
+use Rattle.text_reader.proofs.lines.lines.Tie as tie
 
 -- what the rest answers, the whole answers
 finish : (s : List ℕ) (N start : ℕ) (w₀ : List ℕ) (c room : ℕ) (rest : ReadOut) (a : Outcome (ℕ × ℕ)) (v : List ℕ) → c ≡ room

@@ -1,9 +1,9 @@
--- `text_reader::reader::room_of` meets its contract.
+-- `text_reader::lines::room_of` meets its contract.
 use native.Mathlib.Omega.{arith}
 use borrow.Author.Needs.{needs}
 use borrow.Author.Tests.{lt-ltb, le-ltb}
-use Rattle.text_reader.proofs.reader.room_of.Statement.{statement}
-use Rattle.text_reader.proofs.reader.room_of.Tie as tie
+use Rattle.text_reader.proofs.lines.room_of.Statement.{statement}
+use Rattle.text_reader.proofs.lines.room_of.Tie as tie
 
 cast-result : tie.Need-cast-result
 cast-result c = search needs

@@ -25,12 +25,12 @@ use types.Run.{alloc1, alloc0, params1, pass1, pass0, free1, free0}
 use sound.WpLaws.{FmC, fmOf, WpFn-mono}
 use denote.RattleType.{owns}
 use denote.Laws.{Is, shows}
-use denote.Plain.{uint-vals, uint-tells, uint-makes}
+use denote.Plain.{uint-vals, uint-tells}
 use denote.Builtin.{u8, u32, usize}
 use denote.Ref.{RefT, NamedLft}
 use denote.Signature.{plain}
-use denote.Slice.{ShrSlice, MutSlice, Room, finally, slice-vals, shr-slice-tells, shr-slice-lawful, shr-slice-copy, mut-slice-tells}
-use denote.Steps.{owned, peeks, heard, nothing}
+use denote.Slice.{ShrSlice, MutSlice, Room, slice-vals, shr-slice-tells, shr-slice-lawful, shr-slice-copy, mut-slice-tells}
+use denote.Steps.{peeks, heard, nothing}
 use denote.Enum.Laws as EL
 use denote.Struct.Laws as LL
 use denote.Triple.Statement.{Contract, Triple}
@@ -48,7 +48,7 @@ use Rattle.text.proofs.answer.Reading.Laws as S′
 use Rattle.text_reader.specs.declared.held.HeldText.{HeldText}
 use Rattle.text_reader.proofs.held.HeldText as T
 use Rattle.text_reader.proofs.held.HeldText.Laws as T′
-use Rattle.text_reader.proofs.HeldWalk.{Row, slice, Lines}
+use Rattle.text_reader.proofs.HeldWalk.{Row, slice, Tokens, AtEnd, Lines, place, number}
 use Rattle.text_reader.proofs.held.hold as hold
 use Rattle.text_reader.proofs.held.hold.Symbol as hold-def
 use Rattle.text_reader.proofs.held.hold.Symbol.{name as #hold}
@@ -63,8 +63,13 @@ use Rattle.text_reader.proofs.held.lines_from.Statement as stated
 use Rattle.text_reader.proofs.held.lines_from.Code as code
 
 abbrev stayed : Stays (f.ended .signature .params) (f.ended .kept)
-stayed = (stay-none-slice (0 ∷ []) tt (plain (λ _. u8)) yes, (stay-none (λ _. usize) yes,
-    (gave-slice (1 ∷ []) tt (plain (λ _. u32)), (stay-none (λ _. u32) yes, tt))))
+stayed = (
+  stay-none-slice (0 ∷ []) tt (plain (λ _. u8)) yes,
+  (
+    stay-none (λ _. usize) yes,
+    (gave-slice (1 ∷ []) tt (plain (λ _. u32)), (stay-none (λ _. u32) yes, tt)),
+  ),
+)
 
 module _ {M : Type 1} (𝓤 : URA M) (H : Heap 𝓤) (A : Atoms 𝓤) (mem : Memory → SProp 𝓤) (run : Routine → Fun 𝓤) where
   -- the contracts that the proof cites
@@ -111,7 +116,7 @@ module _ {M : Type 1} (𝓤 : URA M) (H : Heap 𝓤) (A : Atoms 𝓤) (W : Given
   goes-hold : ent 𝓤 Entry
       (sep 𝓤 (Hold 𝓤 H A mem run .pre to-hold) (sep 𝓤 (sem 𝓤 H A Text) (sep 𝓤 (sem 𝓤 H A Rest) (A .lft κ′ q′))))
   goes-hold =
-      qed W ((‵ (flft κ q) ⊛ ‵ (flft κ′ q′) ⊛ ‵ ftrue) ∷
+      qed W (Tokens κ q κ′ q′ ∷
       ‵ (owns (ShrSlice (named 0) κ u8 ∷ usize ∷ MutSlice (named 1) κ′ u32 ∷ u32 ∷ []) (t, (n, (x, (N, tt)))) at) ∷ []) ∵
       split ! $ move ! (1 ∷ []) $ split ! $ move ! (3 ∷ []) $ fsplit ! $ move ! (1 ∷ []) $ fsplit ! $
       -- [what the place owns; the rest; what the text owns; κ′'s token; true; κ's token]
@@ -120,7 +125,8 @@ module _ {M : Type 1} (𝓤 : URA M) (H : Heap 𝓤) (A : Atoms 𝓤) (W : Given
       move ! (0 ∷ 2 ∷ []) $ fjoin ! $ nothing ! $ move ! (6 ∷ 0 ∷ []) $ join ! $
       -- [κ's token ∗ true; what the text and the place own; what the text owns; the rest; κ′'s token; true]
       use2 W (raw (Hold 𝓤 H A mem run .pre to-hold)) (qed W ((‵ (flft κ q) ⊛ ‵ ftrue) ∷
-      ‵ (owns (ShrSlice (named 0) κ u8 ∷ usize ∷ []) (t, (n, tt)) (slice t ∷ [], (vint w64 n ∷ [], tt))) ∷ []) ∵ join ! $ frame ! $ done !) $
+      ‵ (owns (ShrSlice (named 0) κ u8 ∷ usize ∷ []) (t, (n, tt)) (slice t ∷ [], (vint w64 n ∷ [], tt))) ∷ []) ∵
+      join ! $ frame ! $ done !) $
       frame ! $ frame ! $ frame ! $ keep ! (0 ∷ []) $ done !
 
   abbrev Held : HeldText → Type 0
@@ -140,21 +146,20 @@ module _ {M : Type 1} (𝓤 : URA M) (H : Heap 𝓤) (A : Atoms 𝓤) (W : Given
   goes-read : (u : Val) → ent 𝓤 (onEntry 𝓤 H A read-lines.signature κs (q, (q′, tt)) (d, (x, (N, tt))) (passed u))
       (ReadLines 𝓤 H A mem run .pre (to-read u))
   goes-read u =
-      qed W ((‵ (flft κ q) ⊛ ‵ (flft κ′ q′) ⊛ ‵ ftrue) ∷
+      qed W (Tokens κ q κ′ q′ ∷
       ‵ (owns (Row κ ∷ MutSlice (named 1) κ′ u32 ∷ u32 ∷ []) (d, (x, (N, tt))) (passed u)) ∷ []) ∵ says ! inside $ frame ! $ done !
 
   abbrev Said : Reading → List ℕ → Type 0
   Said = Lines (t .now) n N (x .now)
 
   exits : (r : Reading) (u : Val) (zs : List ℕ) → Said r zs → length zs ≡ length (x .now)
-      → ent 𝓤 (⋆ 𝓤 H A (‵ (S.the-row .own r (u ∷ [])) ∷ (‵ (flft κ q) ⊛ ‵ (flft κ′ q′) ⊛ ‵ ftrue) ∷ ‵ (finally u32 (x .name) zs) ∷
-      ‵ Text ∷ [])) (Post u)
+      → ent 𝓤 (⋆ 𝓤 H A (AtEnd (Tokens κ q κ′ q′) Text x r u zs)) (Post u)
   exits r u zs e l =
-      qed W (‵ (S.the-row .own r (u ∷ [])) ∷ (‵ (flft κ q) ⊛ ‵ (flft κ′ q′) ⊛ ‵ ftrue) ∷ ‵ (finally u32 (x .name) zs) ∷ ‵ Text ∷ []) ∵
+      qed W (AtEnd (Tokens κ q κ′ q′) Text x r u zs) ∵
       suffices ! _ (ends-at 𝓤 H A f.ended stayed (f.clauses 𝓤 H A mem run) W
       ((κs, (q, (q′, tt)), tt, (t, (n, (x, (N, tt)))), at), tt) u r (tt, (tt, (zs, (tt, tt)))) (tt, (tt, (l, (tt, tt))))) $ says ! e $
-      move ! (1 ∷ []) $ frame ! $ nothing ! $ owned ! u32 (Is u32) (uint-makes 𝓤 H A W w32) N _ (refl, N-fits) $ fjoin ! $
-      move ! (2 ∷ 0 ∷ []) $ fjoin ! $ owned ! usize (Is usize) (uint-makes 𝓤 H A W w64) n _ (refl, n-fits) $ fjoin ! $
+      move ! (1 ∷ []) $ frame ! $ nothing ! $ number ! N N-fits $ fjoin ! $
+      move ! (2 ∷ 0 ∷ []) $ fjoin ! $ place ! n n-fits $ fjoin ! $
       move ! (2 ∷ 0 ∷ []) $ fjoin ! $ frame ! $ done !
 
   module _ (C : Calls 𝓤 H) (Λ : Loops 𝓤 H) (fm : FmC 𝓤 H (W .laws) C) (known-hold : Triple 𝓤 (C #hold) (Hold 𝓤 H A mem run))
@@ -176,7 +181,8 @@ module _ {M : Type 1} (𝓤 : URA M) (H : Heap 𝓤) (A : Atoms 𝓤) (W : Given
         use1 W (later (some (λ (h : HeldText). ((‵ (flft κ q) ⊛ ‵ ftrue) ⊛ ‵ (Row κ .own h (u ∷ []))) ⊛
         raw (ensured 𝓤 H A hold.ended (hold.clauses 𝓤 H A mem run) (κ, tt) (t, (n, tt)) tt h)))) (id⊢ 𝓤 _) $
         await ! tt $ pick ! (λ h. split ! $ move ! (1 ∷ []) $ use1 W (raw (fact 𝓤 (Held h))) (hold-said h) $ heard ! (Held h) (λ e.
-        split ! $ rewrite ! 1 (λ (h : HeldText). ‵ (Row κ .own h (u ∷ []))) (λ i. record { text = e .0 i; at = e .1 i }) refl $ move ! (1 ∷ []) $
+        split ! $ rewrite ! 1 (λ (h : HeldText). ‵ (Row κ .own h (u ∷ []))) (λ i. record { text = e .0 i; at = e .1 i }) refl $
+        move ! (1 ∷ []) $
         -- [what the held text owns; κ's token; the rest; κ′'s token; what the text owns; _7; …]
         peeks ! (Row κ) (Is (Row κ)) (shows 𝓤 H A (Row κ)) d (u ∷ []) (λ is.
         land ! (from ! (stop !)) (init ! 9 refl (LL.lawful (T.the-type local) (T′.the-laws local) 𝓤 H A W .typed d _ is .0)) $
@@ -192,7 +198,7 @@ module _ {M : Type 1} (𝓤 : URA M) (H : Heap 𝓤) (A : Atoms 𝓤) (W : Given
         calls-at ! fm (ReadLines 𝓤 H A mem run) known-read (to-read u)
         (and-then ! (load ! (from ! (stop !)) (look ! 6 refl)) (and-then ! (load ! (from ! (stop !)) (look ! 2 refl))
         (and-then ! (load ! (from ! (stop !)) (look ! 8 refl)) (no-more !)))) (λ w.
-        use1 W (later (some (λ (r : Reading). ((‵ (flft κ q) ⊛ ‵ (flft κ′ q′) ⊛ ‵ ftrue) ⊛ ‵ (S.the-row .own r (w ∷ []))) ⊛
+        use1 W (later (some (λ (r : Reading). (Tokens κ q κ′ q′ ⊛ ‵ (S.the-row .own r (w ∷ []))) ⊛
         raw (ensured 𝓤 H A read-lines.ended (read-lines.clauses 𝓤 H A mem run) κs (d, (x, (N, tt))) tt r)))) (id⊢ 𝓤 _) $
         await ! tt $ pick ! (λ r. split ! $ move ! (1 ∷ []) $
         use1 W (some (λ (zs : Unit {0} × (List ℕ × (Unit {0} × Unit {0}))).
@@ -217,8 +223,13 @@ module _ {M : Type 1} (𝓤 : URA M) (H : Heap 𝓤) (A : Atoms 𝓤) (W : Given
   walks C Λ fm known-hold known-read =
       walked 𝓤 H A f.ended stayed (f.clauses 𝓤 H A mem run) (WpFn 𝓤 H C Λ code.function)
       (λ κs. (slice-vals, (uint-vals w64, (slice-vals, (uint-vals w32, tt)))))
-      (λ κs. (shr-slice-tells (named 0) (κs .0) u8, (uint-tells w64,
-      (mut-slice-tells (named 1) (κs .1 .0) u32, (uint-tells w32, tt)))))
+      (λ κs. (
+        shr-slice-tells (named 0) (κs .0) u8,
+        (
+          uint-tells w64,
+          (mut-slice-tells (named 1) (κs .1 .0) u32, (uint-tells w32, tt)),
+        ),
+      ))
       (λ κs qs bounds a g are. needs 𝓤 (a .1 .0 ≤ length (a .0 .now)) _ (λ inside.
       walk 𝓤 H A W mem run (κs .0) (κs .1 .0) (qs .0) (qs .1 .0) (a .0) (a .1 .0) (a .1 .1 .0) (a .1 .1 .1 .0) (are .1 .0 .1)
       (are .1 .1 .1 .0 .1) inside C Λ fm known-hold known-read (are .0) (are .1 .1 .0 .0 .1)))
@@ -226,9 +237,13 @@ module _ {M : Type 1} (𝓤 : URA M) (H : Heap 𝓤) (A : Atoms 𝓤) (W : Given
   meets : (𝓣 : Tables 𝓤 H) → Triple 𝓤 (𝓣 .C #hold) (Hold 𝓤 H A mem run) → Triple 𝓤 (𝓣 .C #read-lines) (ReadLines 𝓤 H A mem run)
       → Meets 𝓤 H A f.signature (WpFn 𝓤 H (𝓣 .C) (𝓣 .Λ) code.function) (f.spec 𝓤 H A mem run)
   meets 𝓣 known-hold known-read =
-      walk-meets 𝓤 H A f.ended stayed W
-      (goes-none-slice 𝓤 H A W 2 (0 ∷ []) tt (plain (λ _. u8)) yes, (goes-none 𝓤 H A W 2 (λ _. usize) yes (λ κs x f. refl),
-      (goes-gave-slice 𝓤 H A W 2 1 tt (plain (λ _. u32)), (goes-none 𝓤 H A W 2 (λ _. u32) yes (λ κs x f. refl), tt))))
+      walk-meets 𝓤 H A f.ended stayed W (
+        goes-none-slice 𝓤 H A W 2 (0 ∷ []) tt (plain (λ _. u8)) yes,
+        (
+          goes-none 𝓤 H A W 2 (λ _. usize) yes (λ κs x f. refl),
+          (goes-gave-slice 𝓤 H A W 2 1 tt (plain (λ _. u32)), (goes-none 𝓤 H A W 2 (λ _. u32) yes (λ κs x f. refl), tt)),
+        ),
+      )
       (f.clauses 𝓤 H A mem run) (WpFn 𝓤 H (𝓣 .C) (𝓣 .Λ) code.function) (WpFn-mono 𝓤 H (W .laws) 𝓣 code.function)
       (walks (𝓣 .C) (𝓣 .Λ) (fmOf 𝓤 H (W .laws) 𝓣) known-hold known-read)
 

@@ -2,6 +2,7 @@
 use Prim.Native.Nat.{ℕ, _<_, _≤_}
 use mathlib.Core.List.{List}
 use mathlib.Core.Path.{_≡_, refl, sym, ap, subst, _∙_}
+use native.Mathlib.Omega.{arith}
 use lib.ListN.{length, replicate}
 use borrow.Author.Needs.{needs}
 use borrow.Author.Tests.{lt-ltb, le-ltb}
@@ -70,7 +71,8 @@ lines-from-requires c κs =
     let at-v = c .before .before in
     let at-header = at-v .before .before in
     let start = at-header .before .before .before .before .before .before .before .before in
-    subst (HeaderRuns (start .args .text .now)) (at-v .v .given .1) (at-header .header .ensures .1)
+    let inside = subst (HeaderRuns (start .args .text .now)) (at-v .v .given .1) (at-header .header .ensures .1) in
+    omega (arith, inside)
 
 enum-known-variables : tie.Need-enum-known-variables
 enum-known-variables c = search needs

@@ -10,6 +10,8 @@ use lib.Seq.{take-at, drop-at, drop-drop}
 use Rattle.terms.specs.Lists.{insert}
 use Rattle.terms.specs.Order.{before}
 use Rattle.terms.specs.declared.Term.{Term}
+use Rattle.terms.proofs.Listed.{before-irrefl, before-trans}
+use Rattle.terms.proofs.Sorted.{Rising, insert-rising}
 use Rattle.lists.specs.Scans.{termsOf}
 use Rattle.insertion.specs.Filled.{held, masksOf, keptOf, Filled}
 use Rattle.insertion.specs.declared.Kept.{Kept}
@@ -25,6 +27,11 @@ insertAll-append (t ∷ l) k acc = insertAll-append l k (insert before t acc)
 pub length-insertAll : (l acc : List Term) → length acc ≤ length (insertAll l acc)
 length-insertAll [] acc = le-refl (length acc)
 length-insertAll (t ∷ l) acc = le-trans (length-insert t acc) (length-insertAll l (insert before t acc))
+
+-- they stay in order
+pub rises : (l acc : List Term) → Rising before acc → Rising before (insertAll l acc)
+rises [] acc r = r
+rises (t ∷ l) acc r = rises l (insert before t acc) (insert-rising before before-irrefl before-trans t acc r)
 
 drop-more : (a b : ℕ) (x y : List ℕ) → a ≤ b → drop a x ≡ drop a y → drop b x ≡ drop b y
 drop-more a b x y h e =
@@ -62,6 +69,10 @@ module _ (m : List Term) (s₀ s : Bool → List ℕ) (ev : Even s₀) (c : ℕ)
     where
       front : (b : Bool) → take c (s b) ≡ masksOf b m
       front b = ap (take c) (is-laid b) ∙ take-at (masksOf b m) (drop c (s₀ b)) c (size b)
+
+  -- in order, where it is
+  pub filled-rising : Rising before m → Rising before (held s c)
+  filled-rising r = subst (Rising before) (sym filled-held) r
 
   -- a longer list made after it is made in s₀
   pub filled-then : (l : List Term) (s′ : Bool → List ℕ) (k : Kept) → length m ≤ length l → Filled l s s′ k → Filled l s₀ s′ k

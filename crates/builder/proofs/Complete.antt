@@ -18,16 +18,13 @@ use Rattle.terms.proofs.Built.{implicant-listed, least-lists, JoinOf}
 use Rattle.terms.proofs.Conjunctions.{conj, conj-i, conj-l}
 use Rattle.terms.proofs.Implicants.{Implicant, Prime, least-same}
 use Rattle.terms.proofs.Listed.{before-irrefl, before-trans, before-total, primes-unique, Lists}
-use Rattle.terms.proofs.Sorted.{Rising, insert-out, insert-rising, insert-in, keep-out, keep-in, map-in}
+use Rattle.terms.proofs.Sorted.{insert-out, insert-in, keep-out, keep-in, map-in}
 use Rattle.terms.proofs.Terms.{Inside, join-l, join-isTerm, IsTerm}
 use Rattle.lists.proofs.Shorter.{Terms, shorter-joins}
+use Rattle.builder.proofs.Adding.{rises}
 use Rattle.builder.specs.Made.{insertAll, allowed, madeWith, madeEach, madeJoins}
 
--- ---- terms inserted one after the other are in order, each once
-rises : (l acc : List Term) → Rising before acc → Rising before (insertAll l acc)
-rises [] acc r = r
-rises (t ∷ l) acc r = rises l (insert before t acc) (insert-rising before before-irrefl before-trans t acc r)
-
+-- ---- the members of terms inserted one after the other
 only-those : (l acc : List Term) (u : Term) → List·Memᴰ u (insertAll l acc) → List·Memᴰ u l ⊎ List·Memᴰ u acc
 only-those [] acc u m = inr m
 only-those (t ∷ l) acc u m = go (only-those l (insert before t acc) u m)

@@ -6,16 +6,18 @@ use mathlib.Core.List.{List, [], _∷_, _++_, map}
 use native.Mathlib.Omega.{arith}
 use lib.ListN.{length, drop}
 use Rattle.terms.specs.Lists.{keep}
+use Rattle.terms.specs.Order.{before}
 use Rattle.terms.specs.Term.{extend, join, conflict}
 use Rattle.terms.specs.declared.Term.{Term}
 use Rattle.terms.proofs.Built.{joinsWith, holdsOne, extended}
+use Rattle.terms.proofs.Sorted.{Rising}
 use Rattle.lists.specs.Scans.{termsOf, termAt}
 use Rattle.lists.proofs.Parts.{drop-terms, drop-end}
 use Rattle.insertion.specs.Filled.{held, Filled}
 use Rattle.insertion.specs.declared.Kept.the-variants.{Count, Full}
 use Rattle.insertion.proofs.Parts.{Even, filled-none}
 use Rattle.builder.specs.Made.{insertAll, madeWith, madeEach, Added}
-use Rattle.builder.proofs.Adding.{insertAll-append, filled-length, filled-fits, filled-held, added-then, added-full}
+use Rattle.builder.proofs.Adding.{insertAll-append, rises, filled-length, filled-fits, filled-held, added-then, added-full}
 
 -- a list that is made of another one term by term: for each term t the terms `one t`
 pub record Steps : Type 0 where
@@ -28,6 +30,7 @@ pub record Steps : Type 0 where
 pub record Turn (m : Steps) (ps ns : List ℕ) (whole : List Term) (s₀ s : Bool → List ℕ) (count k : ℕ) : Type 0 where
   pub within : k ≤ length ps
   pub holds : Filled (held s count) s₀ s (Count count)
+  pub rising : Rising before (held s count)
   pub left : insertAll (m .all (drop k (termsOf ps ns))) (held s count) ≡ whole
 
 -- all terms of the list inserted into those that s held
@@ -35,8 +38,8 @@ abbrev pub allMade : Steps → List ℕ → List ℕ → (Bool → List ℕ) →
 allMade m ps ns s start = insertAll (m .all (termsOf ps ns)) (held s start)
 
 pub turn-start : (m : Steps) (ps ns : List ℕ) (s : Bool → List ℕ) → Even s → (start : ℕ) → start ≤ length (s true)
-    → Turn m ps ns (allMade m ps ns s start) s s start 0
-turn-start m ps ns s ev start h = record { within = zero-le; holds = filled-none s ev start h; left = refl }
+    → Rising before (held s start) → Turn m ps ns (allMade m ps ns s start) s s start 0
+turn-start m ps ns s ev start h r = record { within = zero-le; holds = filled-none s ev start h; rising = r; left = refl }
 
 module _ (m : Steps) (ps ns : List ℕ) (e : length ns ≡ length ps) (whole : List Term) (s₀ s : Bool → List ℕ) (ev : Even s₀)
     (count k : ℕ) (now : Turn m ps ns whole s₀ s count k) where
@@ -83,6 +86,7 @@ module _ (m : Steps) (ps ns : List ℕ) (e : length ns ≡ length ps) (whole : L
         record {
           within = omega arith;
           holds = subst (λ (z : List Term). Filled z s₀ s′ (Count c)) (sym is) made;
+          rising = subst (Rising before) (sym is) (rises (m .one (termAt ps ns k)) (held s count) (now .rising));
           left = ap (insertAll (m .all rest)) is ∙ left-next;
         }
 

@@ -5,8 +5,10 @@ ghost use mathlib.Core.List.{[], _∷_};
 ghost use Prim.Native.Nat.{_≤_, _<_};
 ghost use lib.ListN.{length};
 ghost use Rattle.terms.specs.Lists.{keep};
+ghost use Rattle.terms.specs.Order.{before};
+ghost use Rattle.terms.proofs.Sorted.{Rising};
 ghost use Rattle.lists.specs.Scans.{termsOf};
-ghost use Rattle.insertion.specs.Filled.{bySign};
+ghost use Rattle.insertion.specs.Filled.{bySign, held};
 ghost use Rattle.builder.specs.Made.{joinsWith, extended, allowed, alone, madeWith, madeJoins, madeDecision, Added};
 use insertion::Kept;
 use terms::Term;
@@ -22,7 +24,8 @@ fn add_extended(
     on: &[u64],
     t: Term,
 ) -> Kept
-    requires { ⌜ (x < 64) × (count ≤ length (now positives)) × (length (now negatives) ≡ length (now positives)) ⌝ }
+    requires { ⌜ (x < 64) × (count ≤ length (now positives)) × (length (now negatives) ≡ length (now positives))
+        × Rising before (held (bySign (now positives) (now negatives)) count) ⌝ }
     requires { ⌜ length (now on) ≡ length (now op) ⌝ }
     ensures { λ r. ⌜ Added (extended x sign (termsOf (now (op .entry)) (now (on .entry))) (t ∷ []))
         (bySign (now (positives .entry)) (now (negatives .entry))) count
@@ -46,7 +49,8 @@ fn extend_all(
     lp: &[u64],
     ln: &[u64],
 ) -> Kept
-    requires { ⌜ (x < 64) × (start ≤ length (now positives)) × (length (now negatives) ≡ length (now positives)) ⌝ }
+    requires { ⌜ (x < 64) × (start ≤ length (now positives)) × (length (now negatives) ≡ length (now positives))
+        × Rising before (held (bySign (now positives) (now negatives)) start) ⌝ }
     requires { ⌜ (length (now on) ≡ length (now op)) × (length (now ln) ≡ length (now lp)) ⌝ }
     ensures { λ r. ⌜ Added (extended x sign (termsOf (now (op .entry)) (now (on .entry))) (termsOf (now (lp .entry)) (now (ln .entry))))
         (bySign (now (positives .entry)) (now (negatives .entry))) start
@@ -76,7 +80,7 @@ fn is_allowed(least: bool, ap: &[u64], an: &[u64], bp: &[u64], bn: &[u64], j: Te
     true
 }
 
-// Adds the join of t and u, if they have no conflict and it is to be kept.
+// Adds the join of t and u, if they have no conflict and it is to be kept. One that is there is not looked at again.
 fn add_join(
     positives: &mut [u64],
     negatives: &mut [u64],
@@ -89,7 +93,8 @@ fn add_join(
     t: Term,
     u: Term,
 ) -> Kept
-    requires { ⌜ (count ≤ length (now positives)) × (length (now negatives) ≡ length (now positives)) ⌝ }
+    requires { ⌜ (count ≤ length (now positives)) × (length (now negatives) ≡ length (now positives))
+        × Rising before (held (bySign (now positives) (now negatives)) count) ⌝ }
     requires { ⌜ (length (now an) ≡ length (now ap)) × (length (now bn) ≡ length (now bp)) ⌝ }
     ensures { λ r. ⌜ Added
         (keep (allowed least (termsOf (now (ap .entry)) (now (an .entry))) (termsOf (now (bp .entry)) (now (bn .entry))))
@@ -101,6 +106,9 @@ fn add_join(
         return Kept::Count(count);
     }
     let j = terms::join(t, u);
+    if insertion::is_present(&positives[..count], &negatives[..count], j) {
+        return Kept::Count(count);
+    }
     if is_allowed(least, ap, an, bp, bn, j) {
         return insertion::insert(positives, negatives, count, j);
     }
@@ -119,7 +127,8 @@ fn join_each(
     bn: &[u64],
     t: Term,
 ) -> Kept
-    requires { ⌜ (start ≤ length (now positives)) × (length (now negatives) ≡ length (now positives)) ⌝ }
+    requires { ⌜ (start ≤ length (now positives)) × (length (now negatives) ≡ length (now positives))
+        × Rising before (held (bySign (now positives) (now negatives)) start) ⌝ }
     requires { ⌜ (length (now an) ≡ length (now ap)) × (length (now bn) ≡ length (now bp)) ⌝ }
     ensures { λ r. ⌜ Added
         (keep (allowed least (termsOf (now (ap .entry)) (now (an .entry))) (termsOf (now (bp .entry)) (now (bn .entry))))
@@ -164,7 +173,8 @@ fn join_with(
     bn: &[u64],
     t: Term,
 ) -> Kept
-    requires { ⌜ (count ≤ length (now positives)) × (length (now negatives) ≡ length (now positives)) ⌝ }
+    requires { ⌜ (count ≤ length (now positives)) × (length (now negatives) ≡ length (now positives))
+        × Rising before (held (bySign (now positives) (now negatives)) count) ⌝ }
     requires { ⌜ (length (now an) ≡ length (now ap)) × (length (now bn) ≡ length (now bp)) ⌝ }
     ensures { λ r. ⌜ Added
         (madeWith least (termsOf (now (ap .entry)) (now (an .entry))) (termsOf (now (bp .entry)) (now (bn .entry))) t)
@@ -188,7 +198,8 @@ fn join_all(
     bp: &[u64],
     bn: &[u64],
 ) -> Kept
-    requires { ⌜ (start ≤ length (now positives)) × (length (now negatives) ≡ length (now positives)) ⌝ }
+    requires { ⌜ (start ≤ length (now positives)) × (length (now negatives) ≡ length (now positives))
+        × Rising before (held (bySign (now positives) (now negatives)) start) ⌝ }
     requires { ⌜ (length (now an) ≡ length (now ap)) × (length (now bn) ≡ length (now bp)) ⌝ }
     ensures { λ r. ⌜ Added (madeJoins least (termsOf (now (ap .entry)) (now (an .entry))) (termsOf (now (bp .entry)) (now (bn .entry))))
         (bySign (now (positives .entry)) (now (negatives .entry))) start

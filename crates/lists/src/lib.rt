@@ -44,7 +44,10 @@ pub fn holds_one(positives: &[u64], negatives: &[u64], t: Term) -> bool
 fn is_short(t: Term, a: Term, b: Term) -> bool
     ensures { λ r. ⌜ r ≡ completes t a b ⌝ }
 {
-    terms::inside(b, t) & !is_same(terms::join(a, b), t)
+    if terms::inside(b, t) {
+        return !is_same(terms::join(a, b), t);
+    }
+    false
 }
 
 // The literals of c that b has too, if b is inside t; else all of c's.

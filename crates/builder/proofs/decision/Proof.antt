@@ -13,7 +13,7 @@ use Rattle.insertion.specs.declared.Kept.{Kept}
 use Rattle.insertion.specs.declared.Kept.the-variants.{Count, Full}
 use Rattle.insertion.proofs.Parts.{Even, even, filled-none}
 use Rattle.builder.specs.Made.{insertAll, Added, madeJoins, madeDecision}
-use Rattle.builder.proofs.Adding.{insertAll-append, filled-even, filled-fits, added-then, added-full}
+use Rattle.builder.proofs.Adding.{insertAll-append, rises, filled-even, filled-fits, filled-rising, added-then, added-full}
 use Rattle.builder.proofs.decision.Statement.{statement}
 use Rattle.builder.proofs.decision.Tie as tie
 
@@ -115,7 +115,8 @@ extend-all-requires-2 c κs =
     filled-fits (insertAll (extension s false) []) (slices s) (first d) (evens s) n (made d) in
     let same : length (first d false) ≡ length (first d true) =
     filled-even (insertAll (extension s false) []) (slices s) (first d) (evens s) n (made d) false in
-    ((s .pre .0 .0, fits, same), s .pre .1)
+    let order = filled-rising (insertAll (extension s false) []) (slices s) (first d) (evens s) n (made d) (rises (extension s false) [] tt) in
+    ((s .pre .0 .0, fits, same, order), s .pre .1)
 
 enum-known-d : tie.Need-enum-known-d
 enum-known-d c = search needs
@@ -148,7 +149,9 @@ join-all-requires c κs =
     let fits : n ≤ length (second p true) = filled-fits (two s) (slices s) (second p) (evens s) n h in
     let same : length (second p false) ≡ length (second p true) =
     filled-even (two s) (slices s) (second p) (evens s) n h false in
-    ((fits, same), s .pre .1)
+    let order = filled-rising (two s) (slices s) (second p) (evens s) n h
+    (rises (extension s true) (insertAll (extension s false) []) (rises (extension s false) [] tt)) in
+    ((fits, same, order), s .pre .1)
 
 same-length-5 : tie.Need-same-length-5
 same-length-5 c = search needs

@@ -85,7 +85,7 @@ loop-holds c =
     turn-start (steps (x .least) (termsOf (x .ap .now) (x .an .now)) (termsOf (x .bp .now) (x .bn .now)))
     (x .ap .now) (x .an .now)
     (bySign (x .positives .now) (x .negatives .now))
-    (even (x .positives .now) (x .negatives .now) (s .pre .0 .1)) (x .start) (s .pre .0 .0)
+    (even (x .positives .now) (x .negatives .now) (s .pre .0 .1)) (x .start) (s .pre .0 .0) (s .pre .0 .2)
 
 term-at-requires : tie.Need-term-at-requires Inv-loop μ-loop
 term-at-requires c κs =
@@ -103,7 +103,7 @@ join-with-requires c κs =
     (allMade (making a) (x .ap .now) (x .an .now) (first a) (x .start)) (first a) (now a) (evens a) (a .loop .count) (a .loop .k)
     (a .loop .inv) in
     let same : length (a .loop .negatives) ≡ length (a .loop .positives) = sizes a false ∙ evens a false ∙ sym (sizes a true) in
-    ((fits, same), s .pre .1)
+    ((fits, same, a .loop .inv .rising), s .pre .1)
 
 enum-known-c : tie.Need-enum-known-c Inv-loop μ-loop
 enum-known-c c = search needs

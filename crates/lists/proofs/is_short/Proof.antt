@@ -1,8 +1,21 @@
 -- `lists::is_short` meets its contract.
+use mathlib.Core.Path.{_≡_, sym, ap, _∙_}
+use mathlib.Core.Bool.{Bool, _&&_, not}
 use borrow.Author.Needs.{needs}
-use Rattle.lists.specs.Scans.{completes}
+use Rattle.terms.specs.Term.{join}
+use Rattle.terms.specs.declared.Term.{Term}
+use Rattle.lists.specs.Scans.{same, completes}
 use Rattle.lists.proofs.is_short.Statement.{statement}
 use Rattle.lists.proofs.is_short.Tie as tie
+
+-- what the definition gives, by what the first test said
+told : (c : tie.After-inside) (q : Bool) → c .inside .result ≡ q
+    → let x = c .before .args in
+    completes (x .t) (x .a) (x .b) ≡ (q && not (same (join (x .a) (x .b)) (x .t)))
+unfolding completes
+told c q e =
+    let x = c .before .args in
+    ap (λ (r : Bool). r && not (same (join (x .a) (x .b)) (x .t))) (sym (c .inside .ensures) ∙ e)
 
 inside-requires : tie.Need-inside-requires
 inside-requires c κs = search needs
@@ -14,8 +27,14 @@ is-same-requires : tie.Need-is-same-requires
 is-same-requires c κs = search needs
 
 returns : tie.Need-returns
-unfolding completes
-returns c = rw (c .before .before .inside .ensures, c .is-same .ensures, c .before .join .ensures)
+returns c =
+    let j = c .before in
+    let e = j .before in
+    let x = e .before .before .args in
+    ap not (c .is-same .ensures ∙ ap (λ (z : Term). same z (x .t)) (j .join .ensures)) ∙ sym (told (e .before) _ (e .if1 .taken))
+
+returns-2 : tie.Need-returns-2
+returns-2 c = sym (told (c .before) _ (c .if1 .left))
 
 pub is-short-spec : {M : Type 1} → statement M
-is-short-spec = tie.close (tie.spec inside-requires join-requires is-same-requires returns)
+is-short-spec = tie.close (tie.spec inside-requires join-requires is-same-requires returns returns-2)

@@ -76,7 +76,10 @@ pub fn join(t: Term, u: Term) -> Term
 pub fn inside(t: Term, u: Term) -> bool
     ensures { λ r. ⌜ r ≡ inside t u ⌝ }
 {
-    masks::is_subset(t.positive, u.positive) & masks::is_subset(t.negative, u.negative)
+    if masks::is_subset(t.positive, u.positive) {
+        return masks::is_subset(t.negative, u.negative);
+    }
+    false
 }
 
 // Some variable has different signs in t and u.

@@ -1,0 +1,91 @@
+//! Circuits as node tables: four words a node, children before parents.
+use quelbrift::Table;
+use std::collections::HashMap;
+
+/// A table under construction; the last node made is the whole circuit.
+pub struct Circuit {
+    pub words: Vec<u32>,
+    pub variables: u32,
+    made: HashMap<[u32; 4], u32>,
+}
+
+impl Circuit {
+    pub fn new(variables: u32) -> Self {
+        Circuit { words: Vec::new(), variables, made: HashMap::new() }
+    }
+
+    pub fn nodes(&self) -> usize {
+        self.words.len() / 4
+    }
+
+    /// The table as it is lent to the engine.
+    pub fn table(&self) -> Table<'_> {
+        Table { words: &self.words, variables: self.variables, nodes: self.nodes() as u32 }
+    }
+
+    /// A new node, even where one with the same words is there.
+    fn fresh(&mut self, node: [u32; 4]) -> u32 {
+        let number = self.nodes() as u32;
+        self.words.extend(node);
+        number
+    }
+
+    /// The node with these words, made once.
+    fn shared(&mut self, node: [u32; 4]) -> u32 {
+        if let Some(&number) = self.made.get(&node) {
+            return number;
+        }
+        let number = self.fresh(node);
+        self.made.insert(node, number);
+        number
+    }
+
+    pub fn constant(&mut self, value: bool) -> u32 {
+        self.shared([u32::from(value), 0, 0, 0])
+    }
+
+    pub fn positive(&mut self, x: u32) -> u32 {
+        self.shared([2, x, 0, 0])
+    }
+
+    pub fn negative(&mut self, x: u32) -> u32 {
+        self.shared([3, x, 0, 0])
+    }
+
+    /// a where x is false, b where it is true.
+    pub fn decision(&mut self, x: u32, a: u32, b: u32) -> u32 {
+        self.shared([4, x, a, b])
+    }
+
+    /// A decision of its own, not shared with an equal one.
+    pub fn fresh_decision(&mut self, x: u32, a: u32, b: u32) -> u32 {
+        self.fresh([4, x, a, b])
+    }
+
+    pub fn conjunction(&mut self, a: u32, b: u32) -> u32 {
+        self.shared([5, 0, a, b])
+    }
+
+    /// The conjunction of one or more nodes of disjoint variables.
+    pub fn all(&mut self, parts: &[u32]) -> u32 {
+        let mut whole = parts[0];
+        for &part in &parts[1..] {
+            whole = self.conjunction(whole, part);
+        }
+        whole
+    }
+
+    /// At least k of the variables are true, as an ordered decision diagram with literals at its ends.
+    pub fn at_least(&mut self, k: usize, variables: &[u32]) -> u32 {
+        if k == 0 || k > variables.len() {
+            return self.constant(k == 0);
+        }
+        let (x, rest) = (variables[0], &variables[1..]);
+        if rest.is_empty() {
+            return self.positive(x);
+        }
+        let low = self.at_least(k, rest);
+        let high = self.at_least(k - 1, rest);
+        self.decision(x, low, high)
+    }
+}

@@ -1,0 +1,283 @@
+//! Families of circuits, each a function of a few numbers.
+use crate::circuit::Circuit;
+
+/// A circuit with its name.
+pub struct Family {
+    pub name: String,
+    pub circuit: Circuit,
+}
+
+fn named(name: String, circuit: Circuit) -> Family {
+    Family { name, circuit }
+}
+
+fn range(start: u32, length: u32) -> Vec<u32> {
+    (start..start + length).collect()
+}
+
+/// At least k of n variables, as an ordered decision diagram.
+pub fn at_least(k: usize, n: u32) -> Family {
+    let mut c = Circuit::new(n);
+    c.at_least(k, &range(0, n));
+    named(format!("at least {k} of {n}"), c)
+}
+
+/// Between low and high of n variables are true: terms of both signs.
+pub fn between(low: usize, high: usize, n: u32) -> Family {
+    fn made(c: &mut Circuit, low: usize, high: usize, x: u32) -> u32 {
+        let left = (c.variables - x) as usize;
+        if low > high || low > left {
+            return c.constant(false);
+        }
+        if low == 0 && high >= left {
+            return c.constant(true);
+        }
+        let a = made(c, low, high, x + 1);
+        let b = if high == 0 { c.constant(false) } else { made(c, low.saturating_sub(1), high - 1, x + 1) };
+        c.decision(x, a, b)
+    }
+    let mut c = Circuit::new(n);
+    made(&mut c, low, high, 0);
+    named(format!("between {low} and {high} of {n}"), c)
+}
+
+/// An odd number of n variables: 2^(n-1) terms, any two in conflict.
+pub fn parity(n: u32) -> Family {
+    let mut c = Circuit::new(n);
+    let (mut odd, mut even) = (c.positive(n - 1), c.negative(n - 1));
+    for x in (0..n - 1).rev() {
+        let above = if x > 0 { c.decision(x, even, odd) } else { even };
+        odd = c.decision(x, odd, even);
+        even = above;
+    }
+    named(format!("parity of {n}"), c)
+}
+
+/// The conjunction of blocks of their own variables, each at least k of m: C(m, k)^blocks terms.
+pub fn product(blocks: u32, k: usize, m: u32) -> Family {
+    let mut c = Circuit::new(blocks * m);
+    let parts: Vec<u32> = (0..blocks).map(|i| c.at_least(k, &range(i * m, m))).collect();
+    c.all(&parts);
+    named(format!("product of {blocks} times at least {k} of {m}"), c)
+}
+
+/// A decision over two thresholds k of m that share some variables.
+pub fn overlap(k: usize, m: u32, common: u32) -> Family {
+    let mut c = Circuit::new(2 * m - common + 1);
+    let low = c.at_least(k, &range(1, m));
+    let high = c.at_least(k, &range(1 + m - common, m));
+    c.decision(0, low, high);
+    named(format!("decision, at least {k} of {m}, {common} shared"), c)
+}
+
+/// The data variable that the selecting variables name.
+pub fn multiplexer(selectors: u32) -> Family {
+    let mut c = Circuit::new(selectors + (1 << selectors));
+    let mut layer: Vec<u32> = (0..1 << selectors).map(|i| c.positive(selectors + i)).collect();
+    for x in (0..selectors).rev() {
+        layer = layer.chunks(2).map(|pair| c.decision(x, pair[0], pair[1])).collect();
+    }
+    named(format!("multiplexer of {selectors} selectors"), c)
+}
+
+/// The number that n variables write in base two, variable 0 the highest digit, is from low to high.
+pub fn interval(low: u64, high: u64, n: u32) -> Family {
+    fn made(c: &mut Circuit, low: Option<u64>, high: Option<u64>, x: u32) -> u32 {
+        if x == c.variables || (low.is_none() && high.is_none()) {
+            return c.constant(true);
+        }
+        let digit = c.variables - 1 - x;
+        let bit = |bound: u64| bound >> digit & 1 == 1;
+        let side = |c: &mut Circuit, one: bool| {
+            if low.is_some_and(|l| bit(l) && !one) || high.is_some_and(|h| !bit(h) && one) {
+                return c.constant(false);
+            }
+            let tight = |bound: Option<u64>| bound.filter(|&b| bit(b) == one);
+            made(c, tight(low), tight(high), x + 1)
+        };
+        let (a, b) = (side(c, false), side(c, true));
+        c.decision(x, a, b)
+    }
+    let mut c = Circuit::new(n);
+    made(&mut c, Some(low), Some(high), 0);
+    named(format!("interval {low} to {high} of {n} digits"), c)
+}
+
+/// A threshold under a chain of decisions with one child on both sides: every node above has the threshold's terms again.
+pub fn repeated(k: usize, m: u32, above: u32) -> Family {
+    let mut c = Circuit::new(m + above);
+    let mut top = c.at_least(k, &range(above, m));
+    for x in (0..above).rev() {
+        top = c.decision(x, top, top);
+    }
+    named(format!("{above} decisions over one at least {k} of {m}"), c)
+}
+
+/// The variable with the number of true variables among n is true (none for 0): terms of both signs, little shared.
+pub fn hidden_weighted_bit(n: u32) -> Family {
+    fn made(c: &mut Circuit, x: u32, ones: u32, taken: u32) -> u32 {
+        if x == c.variables {
+            return c.constant(ones > 0 && taken >> (ones - 1) & 1 == 1);
+        }
+        let a = made(c, x + 1, ones, taken);
+        let b = made(c, x + 1, ones + 1, taken | 1 << x);
+        if a == b {
+            return a;
+        }
+        c.decision(x, a, b)
+    }
+    let mut c = Circuit::new(n);
+    made(&mut c, 0, 0, 0);
+    named(format!("hidden weighted bit of {n}"), c)
+}
+
+/// All of the variables are true.
+fn every(c: &mut Circuit, variables: &[u32]) -> u32 {
+    let literals: Vec<u32> = variables.iter().map(|&x| c.positive(x)).collect();
+    c.all(&literals)
+}
+
+/// The two sides of `one_join` in the circuit: on variables 1 to m a threshold and all of the next m, and the other way round.
+fn crossed(c: &mut Circuit, k: usize, m: u32) -> (u32, u32) {
+    let (own, other) = (range(1, m), range(1 + m, m));
+    let (g, h) = (c.at_least(k, &own), c.at_least(k, &other));
+    let (all_own, all_other) = (every(c, &own), every(c, &other));
+    (c.conjunction(g, all_other), c.conjunction(all_own, h))
+}
+
+/// A decision whose sides have p = C(m, k) terms each, and all p^2 joins are one term, which is minimal.
+pub fn one_join(k: usize, m: u32) -> Family {
+    let mut c = Circuit::new(2 * m + 1);
+    let (low, high) = crossed(&mut c, k, m);
+    c.decision(0, low, high);
+    named(format!("one join, at least {k} of {m} crossed"), c)
+}
+
+/// Like `one_join`, but the low side has a last term that makes the joins of all others one term that is not minimal, and this
+/// is seen only at the end of each search. Such a decision stands 2^levels times below a tree of decisions.
+pub fn one_join_late(k: usize, m: u32, levels: u32) -> Family {
+    let mut c = Circuit::new(2 * m + 1 + levels);
+    let (own, other) = (range(1, m), range(1 + m, m));
+    let (g, h) = (c.at_least(k, &own), c.at_least(k, &other));
+    let (most_own, most_other, all_own) = (every(&mut c, &own[1..]), every(&mut c, &other[1..]), every(&mut c, &own));
+    let low = c.decision(other[0], most_own, g);
+    let (low, high) = (c.conjunction(most_other, low), c.conjunction(all_own, h));
+    let copies = (0..1 << levels).map(|_| c.fresh_decision(0, low, high)).collect();
+    tree(&mut c, copies, 2 * m + 1);
+    named(format!("{} times one join, seen late, at least {k} of {m}", 1 << levels), c)
+}
+
+/// Clauses of their own variables, of the given sizes, from variable `start` on.
+fn clauses(c: &mut Circuit, sizes: &[u32], start: u32) -> u32 {
+    let mut at = start;
+    let mut parts = Vec::new();
+    for &size in sizes {
+        parts.push(c.at_least(1, &range(at, size)));
+        at += size;
+    }
+    c.all(&parts)
+}
+
+/// A tree of decisions above the leaves, one variable a level from `start` on.
+fn tree(c: &mut Circuit, leaves: Vec<u32>, start: u32) {
+    let (mut layer, mut x) = (leaves, start);
+    while layer.len() > 1 {
+        layer = layer.chunks(2).map(|pair| c.fresh_decision(x, pair[0], pair[1])).collect();
+        x += 1;
+    }
+}
+
+/// A tree of decisions whose leaves are all the product of clauses of the given sizes.
+pub fn same_sides(sizes: &[u32], levels: u32) -> Family {
+    let mut c = Circuit::new(levels + sizes.iter().sum::<u32>());
+    let product = clauses(&mut c, sizes, levels);
+    tree(&mut c, vec![product; 1 << levels], 0);
+    named(format!("{} decisions over clauses of {sizes:?}", (1u32 << levels) - 1), c)
+}
+
+/// All of the variables `all`, or the given node.
+fn every_or(c: &mut Circuit, all: &[u32], node: u32) -> u32 {
+    let mut top = c.constant(true);
+    for &x in all.iter().rev() {
+        top = c.decision(x, node, top);
+    }
+    top
+}
+
+/// A decision whose sides have p = C(m, k) terms each and one in common, the last of each, which is inside all p^2 joins.
+pub fn late(k: usize, m: u32) -> Family {
+    let size = k as u32;
+    let mut c = Circuit::new(1 + 2 * m + 2 * size);
+    let (own, other) = (range(1, m), range(1 + m, m));
+    let (u, v) = (range(1 + 2 * m, size), range(1 + 2 * m + size, size));
+    let (g, h) = (c.at_least(k, &own), c.at_least(k, &other));
+    let (low, high) = (every_or(&mut c, &v, g), every_or(&mut c, &u, h));
+    let (all_u, all_v) = (every(&mut c, &u), every(&mut c, &v));
+    let (low, high) = (c.conjunction(all_u, low), c.conjunction(all_v, high));
+    c.decision(0, low, high);
+    named(format!("late, at least {k} of {m}"), c)
+}
+
+/// A decision whose low side has p = C(m, k) terms and whose high side q = C(o, l) and a last one. The p joins with the last one
+/// are inside all p * q others, and each is found after those.
+pub fn last_join(k: usize, m: u32, l: usize, o: u32) -> Family {
+    let size = l as u32;
+    let mut c = Circuit::new(2 + m + o + size);
+    let u = range(2 + m + o, size);
+    let (g, h) = (c.at_least(k, &range(2, m)), c.at_least(l, &range(2 + m, o)));
+    let (all_u, v) = (every(&mut c, &u), c.positive(1));
+    let (low, high) = (c.conjunction(all_u, g), every_or(&mut c, &u, h));
+    let high = c.conjunction(v, high);
+    c.decision(0, low, high);
+    named(format!("last join, at least {k} of {m} and {l} of {o}"), c)
+}
+
+/// The families of the table.
+pub fn usual() -> Vec<Family> {
+    vec![
+        at_least(3, 5),
+        at_least(6, 12),
+        at_least(7, 14),
+        at_least(4, 16),
+        between(3, 6, 9),
+        between(2, 10, 12),
+        parity(5),
+        parity(13),
+        product(8, 1, 2),
+        product(4, 2, 4),
+        product(12, 1, 2),
+        overlap(3, 8, 2),
+        overlap(3, 12, 6),
+        multiplexer(3),
+        multiplexer(4),
+        interval(1000, 3000, 12),
+        interval(12345, 54321, 16),
+        repeated(5, 10, 6),
+        hidden_weighted_bit(8),
+        hidden_weighted_bit(12),
+        one_join(4, 7),
+        one_join(4, 9),
+        same_sides(&[8, 8, 8], 1),
+        late(4, 11),
+    ]
+}
+
+/// The worst circuits found.
+pub fn worst() -> Vec<Family> {
+    let clauses: [u32; 5] = [8, 8, 4, 4, 4];
+    vec![
+        one_join(4, 9),
+        one_join(5, 11),
+        one_join(6, 13),
+        one_join_late(5, 11, 0),
+        one_join_late(6, 13, 0),
+        one_join_late(6, 13, 2),
+        same_sides(&clauses, 1),
+        same_sides(&clauses, 5),
+        same_sides(&clauses, 8),
+        late(5, 12),
+        late(6, 13),
+        last_join(5, 11, 5, 12),
+        last_join(4, 14, 5, 14),
+    ]
+}

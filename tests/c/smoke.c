@@ -1,0 +1,393 @@
+/* Calls every exported function from C: work that is done, each refusal that it can give, and what the lent buffers hold then. */
+#include "quelbrift.h"
+
+#include <stdio.h>
+#include <string.h>
+
+static unsigned passed;
+static unsigned failed;
+/* Which of several like calls is being checked; printed with a failure. */
+static size_t call;
+
+static void expect(int holds, const char *expression, int line)
+{
+    if (holds) {
+        passed++;
+        return;
+    }
+    failed++;
+    printf("smoke.c:%d: failed (call %zu): %s\n", line, call, expression);
+}
+
+/* One part of an answer. */
+static void expect_part(uint64_t is, uint64_t expected, const char *part, const char *expression, int line)
+{
+    expect(is == expected, expression, line);
+    if (is != expected) {
+        printf("    %s is %llu, expected %llu\n", part, (unsigned long long)is, (unsigned long long)expected);
+    }
+}
+
+static void expect_answer(quelbrift_answer is, quelbrift_answer expected, const char *expression, int line)
+{
+    expect_part(is.number, expected.number, "number", expression, line);
+    expect_part(is.place, expected.place, "place", expression, line);
+    expect_part(is.first, expected.first, "first", expression, line);
+    expect_part(is.second, expected.second, "second", expression, line);
+}
+
+#define EXPECT(expression) expect((expression) != 0, #expression, __LINE__)
+#define EXPECT_ANSWER(answer, ...) expect_answer((answer), (quelbrift_answer){__VA_ARGS__}, #answer, __LINE__)
+#define EXPECT_DONE(answer, first, second) EXPECT_ANSWER(answer, QUELBRIFT_DONE, 0, first, second)
+#define EXPECT_REFUSED(answer, number, place) EXPECT_ANSWER(answer, number, place, 0, 0)
+#define LENGTH(array) (sizeof(array) / sizeof *(array))
+
+/* A table and its refusal by the check, if any. */
+typedef struct {
+    uint32_t variables;
+    uint32_t nodes;
+    size_t length;
+    uint32_t words[20];
+    uint32_t number;
+    uint64_t place;
+} table;
+
+/* (pick 0 (no 1) (pick 1 (yes 2) (true))): 5 models, clearances -0 -1, +0 +1, +0 +2, -1 +2. */
+static const table worked = {3, 5, 20, {3, 1, 0, 0, 2, 2, 0, 0, 1, 0, 0, 0, 4, 1, 1, 2, 4, 0, 0, 3}, 0, 0};
+static const char worked_nested[] = "(circuit 3)\n(pick 0 (no 1) (pick 1 (yes 2) (true)))\n";
+static const char worked_lines[] =
+    "(circuit 3)\n(no 1)\n(yes 2)\n(true)\n(pick 1 (line 1) (line 2))\n(pick 0 (line 0) (line 3))\n";
+
+static const table refused[] = {
+    {0, 1, 4, {1}, QUELBRIFT_TABLE, 0},
+    {41, 1, 4, {1}, QUELBRIFT_TABLE, 0},
+    {1, 0, 4, {1}, QUELBRIFT_TABLE, 0},
+    {1, 1025, 20, {1}, QUELBRIFT_TABLE, 0},
+    {1, UINT32_MAX, 20, {1}, QUELBRIFT_TABLE, 0},
+    {1, 2, 7, {1}, QUELBRIFT_TABLE, 0},
+    {1, 1, 4, {6}, QUELBRIFT_MALFORMED, 0},
+    {1, 2, 8, {1, 0, 0, 0, 2, 1}, QUELBRIFT_MALFORMED, 1},
+    {1, 2, 8, {1, 0, 0, 0, 5, 0, 0, 1}, QUELBRIFT_MALFORMED, 1},
+    {1, 2, 8, {1, 0, 0, 1, 5}, QUELBRIFT_MALFORMED, 0},
+    {1, 2, 8, {2, 0, 0, 0, 3}, QUELBRIFT_PARENTLESS, 0},
+    {1, 3, 12, {2, 0, 0, 0, 3, 0, 0, 0, 5, 0, 0, 1}, QUELBRIFT_UNDECOMPOSABLE, 2},
+    {1, 3, 12, {2, 0, 0, 0, 1, 0, 0, 0, 4, 0, 0, 1}, QUELBRIFT_UNDECOMPOSABLE, 2},
+    {1, 3, 12, {0, 0, 0, 0, 0, 0, 0, 0, 4, 0, 0, 1}, QUELBRIFT_UNREDUCED, 2},
+    {1, 3, 12, {0, 0, 0, 0, 1, 0, 0, 0, 5, 0, 0, 1}, QUELBRIFT_UNREDUCED, 2},
+};
+
+#define TABLE(table) (table)->words, (table)->length, (table)->variables, (table)->nodes
+#define FOR_EACH_REFUSED(row) \
+    for (const table *row = refused; call = (size_t)(row - refused), row < refused + LENGTH(refused); row++)
+
+/* Whether all bytes of a buffer are the same one. */
+static int all_bytes(const void *buffer, size_t size, unsigned char byte)
+{
+    const unsigned char *bytes = buffer;
+    for (size_t i = 0; i < size; i++) {
+        if (bytes[i] != byte) {
+            return 0;
+        }
+    }
+    return 1;
+}
+
+typedef struct {
+    const char *text;
+    size_t words;
+    uint32_t number;
+    uint64_t place;
+} refused_text;
+
+static const char seventeen_deep[] =
+    "(circuit 1)\n(both (both (both (both (both (both (both (both (both (both (both (both (both (both (both (both (true)";
+
+static const refused_text refused_texts[] = {
+    {"", 8, QUELBRIFT_SHAPE, 0},
+    {"(circuit 1)\n", 8, QUELBRIFT_SHAPE, 12},
+    {"(circuit 1)\n(line 0)\n", 8, QUELBRIFT_SHAPE, 13},
+    {"(circuit 07)\n(true)\n", 8, QUELBRIFT_SHAPE, 10},
+    {"(circuit 12345)\n(true)\n", 8, QUELBRIFT_SHAPE, 13},
+    {"(circuit 1)\n(true)", 8, QUELBRIFT_SHAPE, 18},
+    {"(circuit 41)\n(true)\n", 8, QUELBRIFT_RANGE, 11},
+    {"(circuit 0)\n(true)\n", 8, QUELBRIFT_RANGE, 10},
+    {"(circuit 3)\n(yes 3)\n", 0, QUELBRIFT_RANGE, 18},
+    {"(circuit 3)\n(both (line 0) (true))\n", 8, QUELBRIFT_REFERENCE, 25},
+    {seventeen_deep, 8, QUELBRIFT_DEPTH, 12 + 16 * 6},
+    {"(circuit 3)\n(yes 2)\n", 3, QUELBRIFT_NODES, 18},
+    {"(circuit 3)\n(true)\n(true)\n(true)\n", 8, QUELBRIFT_NODES, 31},
+};
+
+static void check_read_refusals(void)
+{
+    static char longest[40001];
+    uint32_t words[12];
+    for (call = 0; call < LENGTH(refused_texts); call++) {
+        const refused_text *row = &refused_texts[call];
+        memset(words, 0xa5, sizeof words);
+        EXPECT_REFUSED(quelbrift_read((const uint8_t *)row->text, strlen(row->text), words, row->words), row->number, row->place);
+        EXPECT(all_bytes(words, row->words * sizeof *words, 0));
+        EXPECT(all_bytes(words + row->words, sizeof words - row->words * sizeof *words, 0xa5));
+    }
+    memset(words, 0xa5, sizeof words);
+    EXPECT_REFUSED(quelbrift_read((const uint8_t *)longest, 40001, words, 11), QUELBRIFT_LENGTH, 40000);
+    EXPECT_REFUSED(quelbrift_read((const uint8_t *)longest, 40000, words, 11), QUELBRIFT_SHAPE, 0);
+    EXPECT(all_bytes(words, 11 * sizeof *words, 0));
+    EXPECT(words[11] == 0xa5a5a5a5u);
+}
+
+static void check_read(void)
+{
+    uint32_t words[24];
+    const char *const texts[] = {worked_nested, worked_lines};
+    for (call = 0; call < LENGTH(texts); call++) {
+        memset(words, 0xa5, sizeof words);
+        EXPECT_DONE(quelbrift_read((const uint8_t *)texts[call], strlen(texts[call]), words, 23), 3, 5);
+        EXPECT(memcmp(words, worked.words, sizeof worked.words) == 0);
+        EXPECT(all_bytes(words + 20, 3 * sizeof *words, 0));
+        EXPECT(words[23] == 0xa5a5a5a5u);
+    }
+    check_read_refusals();
+}
+
+static void check_write(void)
+{
+    const size_t length = sizeof worked_lines - 1;
+    uint8_t sink[128];
+    memset(sink, 0xa5, sizeof sink);
+    EXPECT_REFUSED(quelbrift_write(TABLE(&worked), sink, length - 1), QUELBRIFT_SINK, length);
+    EXPECT_REFUSED(quelbrift_write(TABLE(&worked), sink, 0), QUELBRIFT_SINK, length);
+    FOR_EACH_REFUSED(row) {
+        if (row->number <= QUELBRIFT_MALFORMED) {
+            EXPECT_REFUSED(quelbrift_write(TABLE(row), sink, sizeof sink), row->number, row->place);
+        }
+    }
+    EXPECT(all_bytes(sink, sizeof sink, 0xa5));
+    EXPECT_DONE(quelbrift_write(TABLE(&worked), sink, sizeof sink), length, 0);
+    EXPECT(memcmp(sink, worked_lines, length) == 0);
+    EXPECT(all_bytes(sink + length, sizeof sink - length, 0xa5));
+    memset(sink, 0xa5, sizeof sink);
+    EXPECT_DONE(quelbrift_write(TABLE(&worked), sink, length), length, 0);
+    EXPECT(memcmp(sink, worked_lines, length) == 0);
+    EXPECT(all_bytes(sink + length, sizeof sink - length, 0xa5));
+}
+
+/* A table that the check refuses with 23 to 25 is written all the same, and read in again. */
+static void check_write_unaccepted(void)
+{
+    FOR_EACH_REFUSED(row) {
+        uint8_t sink[128];
+        uint32_t words[20];
+        if (row->number > QUELBRIFT_MALFORMED) {
+            quelbrift_answer written = quelbrift_write(TABLE(row), sink, sizeof sink);
+            EXPECT(written.number == QUELBRIFT_DONE);
+            EXPECT_DONE(quelbrift_read(sink, written.first, words, LENGTH(words)), row->variables, row->nodes);
+            EXPECT(memcmp(words, row->words, sizeof words) == 0);
+        }
+    }
+}
+
+static void check_check(void)
+{
+    table copy = worked;
+    EXPECT_DONE(quelbrift_check(TABLE(&copy)), 0, 0);
+    EXPECT(memcmp(copy.words, worked.words, sizeof worked.words) == 0);
+    FOR_EACH_REFUSED(row) {
+        EXPECT_REFUSED(quelbrift_check(TABLE(row)), row->number, row->place);
+    }
+}
+
+static void check_evaluate(void)
+{
+    /* By assignment: where variable 0 is false, not variable 1; else variable 1 or variable 2. */
+    static const uint64_t allowed[8] = {1, 0, 0, 1, 1, 1, 0, 1};
+    for (call = 0; call < LENGTH(allowed); call++) {
+        EXPECT_DONE(quelbrift_evaluate(TABLE(&worked), call), allowed[call], 0);
+    }
+    EXPECT_REFUSED(quelbrift_evaluate(TABLE(&worked), 8), QUELBRIFT_ASSIGNMENT, 0);
+    EXPECT_REFUSED(quelbrift_evaluate(TABLE(&worked), (uint64_t)1 << 63), QUELBRIFT_ASSIGNMENT, 0);
+    FOR_EACH_REFUSED(row) {
+        EXPECT_REFUSED(quelbrift_evaluate(TABLE(row), UINT64_MAX), row->number, row->place);
+    }
+}
+
+static void check_count_models(void)
+{
+    const table all = {40, 1, 4, {1}, 0, 0};
+    EXPECT_DONE(quelbrift_count_models(TABLE(&worked)), 5, 0);
+    EXPECT_DONE(quelbrift_count_models(TABLE(&all)), (uint64_t)1 << 40, 0);
+    FOR_EACH_REFUSED(row) {
+        EXPECT_REFUSED(quelbrift_count_models(TABLE(row)), row->number, row->place);
+    }
+}
+
+static void check_implies(void)
+{
+    EXPECT_DONE(quelbrift_implies(TABLE(&worked), 4, 2), 1, 0);
+    EXPECT_DONE(quelbrift_implies(TABLE(&worked), 5, 2), 1, 0);
+    EXPECT_DONE(quelbrift_implies(TABLE(&worked), 4, 0), 0, 0);
+    EXPECT_DONE(quelbrift_implies(TABLE(&worked), 0, 0), 0, 0);
+    EXPECT_REFUSED(quelbrift_implies(TABLE(&worked), 8, 0), QUELBRIFT_TERM, 0);
+    EXPECT_REFUSED(quelbrift_implies(TABLE(&worked), 0, 8), QUELBRIFT_TERM, 0);
+    EXPECT_REFUSED(quelbrift_implies(TABLE(&worked), 1, 1), QUELBRIFT_TERM, 0);
+    FOR_EACH_REFUSED(row) {
+        EXPECT_REFUSED(quelbrift_implies(TABLE(row), UINT64_MAX, UINT64_MAX), row->number, row->place);
+    }
+}
+
+static void check_is_prime(void)
+{
+    EXPECT_DONE(quelbrift_is_prime(TABLE(&worked), 4, 2), 1, 0);
+    EXPECT_DONE(quelbrift_is_prime(TABLE(&worked), 5, 2), 0, 0);
+    EXPECT_DONE(quelbrift_is_prime(TABLE(&worked), 4, 0), 0, 0);
+    EXPECT_REFUSED(quelbrift_is_prime(TABLE(&worked), 8, 0), QUELBRIFT_TERM, 0);
+    EXPECT_REFUSED(quelbrift_is_prime(TABLE(&worked), 0, 8), QUELBRIFT_TERM, 0);
+    EXPECT_REFUSED(quelbrift_is_prime(TABLE(&worked), 1, 1), QUELBRIFT_TERM, 0);
+    FOR_EACH_REFUSED(row) {
+        EXPECT_REFUSED(quelbrift_is_prime(TABLE(row), UINT64_MAX, UINT64_MAX), row->number, row->place);
+    }
+}
+
+static void check_reduce(void)
+{
+    /* 101: variable 0 goes, 1 stays no, 2 stays yes. 111: 0 stays yes, 1 goes, 2 stays yes. */
+    EXPECT_DONE(quelbrift_reduce(TABLE(&worked), 5), 4, 2);
+    EXPECT_DONE(quelbrift_reduce(TABLE(&worked), 7), 5, 0);
+    EXPECT_DONE(quelbrift_reduce(TABLE(&worked), 0), 0, 3);
+    EXPECT_REFUSED(quelbrift_reduce(TABLE(&worked), 2), QUELBRIFT_UNSATISFIED, 0);
+    EXPECT_REFUSED(quelbrift_reduce(TABLE(&worked), 10), QUELBRIFT_ASSIGNMENT, 0);
+    FOR_EACH_REFUSED(row) {
+        EXPECT_REFUSED(quelbrift_reduce(TABLE(row), UINT64_MAX), row->number, row->place);
+    }
+}
+
+/* The buffers of a listing, longer than any call here needs. */
+typedef struct {
+    uint64_t positives[32];
+    uint64_t negatives[32];
+    uint32_t counts[8];
+} buffers;
+
+static quelbrift_answer list(buffers *lent, const table *circuit, uint32_t capacity, size_t rows, size_t negatives, size_t counts)
+{
+    memset(lent, 0xa5, sizeof *lent);
+    return quelbrift_list(TABLE(circuit), capacity, lent->positives, rows, lent->negatives, negatives, lent->counts, counts);
+}
+
+/* The first entries are 0, the later ones unchanged. */
+static int zeroed(const buffers *lent, size_t rows, size_t counts)
+{
+    return all_bytes(lent->positives, rows * 8, 0) && all_bytes(lent->positives + rows, sizeof lent->positives - rows * 8, 0xa5)
+        && all_bytes(lent->negatives, rows * 8, 0) && all_bytes(lent->negatives + rows, sizeof lent->negatives - rows * 8, 0xa5)
+        && all_bytes(lent->counts, counts * 4, 0) && all_bytes(lent->counts + counts, sizeof lent->counts - counts * 4, 0xa5);
+}
+
+static void check_list(void)
+{
+    static const uint64_t positives[20] = {0, 0, 0, 0, 4, 0, 0, 0, 0, 0, 0, 0, 2, 4, 0, 0, 0, 3, 5, 4};
+    static const uint64_t negatives[20] = {2, 0, 0, 0, 0, 0, 0, 0, 0, 0, 0, 0, 0, 0, 0, 0, 3, 0, 0, 2};
+    static const uint32_t counts[5] = {1, 1, 1, 2, 4};
+    static const size_t lengths[][3] = {{20, 20, 5}, {23, 21, 7}};
+    buffers lent;
+    for (call = 0; call < LENGTH(lengths); call++) {
+        EXPECT_DONE(list(&lent, &worked, 4, lengths[call][0], lengths[call][1], lengths[call][2]), 0, 0);
+        EXPECT(memcmp(lent.positives, positives, sizeof positives) == 0);
+        EXPECT(memcmp(lent.negatives, negatives, sizeof negatives) == 0);
+        EXPECT(memcmp(lent.counts, counts, sizeof counts) == 0);
+        EXPECT(all_bytes(lent.positives + 20, sizeof lent.positives - sizeof positives, 0xa5));
+        EXPECT(all_bytes(lent.negatives + 20, sizeof lent.negatives - sizeof negatives, 0xa5));
+        EXPECT(all_bytes(lent.counts + 5, sizeof lent.counts - sizeof counts, 0xa5));
+    }
+}
+
+static void check_list_refusals(void)
+{
+    const table never = {1, 1, 4, {0}, 0, 0}, always = {1, 1, 4, {1}, 0, 0};
+    buffers lent;
+    EXPECT_REFUSED(list(&lent, &worked, 3, 15, 16, 5), QUELBRIFT_CAPACITY, 0);
+    EXPECT(zeroed(&lent, 15, 5));
+    EXPECT_REFUSED(list(&lent, &always, 0, 0, 0, 1), QUELBRIFT_CAPACITY, 0);
+    EXPECT(zeroed(&lent, 0, 1));
+    EXPECT_DONE(list(&lent, &never, 0, 0, 0, 1), 0, 0);
+    EXPECT(zeroed(&lent, 0, 1));
+    static const size_t short_lengths[][4] = {{4, 19, 20, 5}, {4, 20, 19, 5}, {4, 20, 20, 4}, {4097, 32, 32, 8}, {UINT32_MAX, 32, 32, 8}};
+    for (call = 0; call < LENGTH(short_lengths); call++) {
+        const size_t *row = short_lengths[call];
+        EXPECT_REFUSED(list(&lent, &worked, (uint32_t)row[0], row[1], row[2], row[3]), QUELBRIFT_BUFFERS, 0);
+        EXPECT(all_bytes(&lent, sizeof lent, 0xa5));
+    }
+    FOR_EACH_REFUSED(row) {
+        EXPECT_REFUSED(list(&lent, row, 4097, 0, 0, 0), row->number, row->place);
+        EXPECT(all_bytes(&lent, sizeof lent, 0xa5));
+    }
+}
+
+static void check_view(void)
+{
+    static const uint64_t buffer[20];
+    EXPECT_DONE(quelbrift_view(buffer, 20, 4, 4, 4), 16, 4);
+    EXPECT_DONE(quelbrift_view(buffer, 20, 4, 1, 2), 4, 2);
+    EXPECT_DONE(quelbrift_view(buffer, 20, 4, 1, 0), 0, 0);
+    EXPECT_DONE(quelbrift_view(buffer, 19, 4, 4, 4), 0, 0);
+    EXPECT_DONE(quelbrift_view(buffer, 19, 4, 4, 3), 16, 3);
+    EXPECT_DONE(quelbrift_view(buffer, 20, 4, 1, 5), 0, 0);
+    EXPECT_DONE(quelbrift_view(buffer, 20, 4097, 0, 1), 0, 0);
+    EXPECT_DONE(quelbrift_view(buffer, 20, 0, 1024, 0), 0, 0);
+    EXPECT_DONE(quelbrift_view(buffer, 20, UINT32_MAX, UINT32_MAX, UINT32_MAX), 0, 0);
+}
+
+static void check_read_assignment(void)
+{
+    static const struct {
+        const char *text;
+        uint32_t variables;
+        quelbrift_answer answer;
+    } lines[] = {
+        {"(stow)\n", 1, {QUELBRIFT_DONE, 0, 0, 0}},
+        {"(stow 0 2)\n", 3, {QUELBRIFT_DONE, 0, 5, 0}},
+        {"(stow 39)\n", 40, {QUELBRIFT_DONE, 0, (uint64_t)1 << 39, 0}},
+        {"(stow)\n", 0, {QUELBRIFT_TABLE, 0, 0, 0}},
+        {"(stow)\n", 41, {QUELBRIFT_TABLE, 0, 0, 0}},
+        {"(stow)", 3, {QUELBRIFT_LINE_SHAPE, 6, 0, 0}},
+        {"(stow 0 )\n", 3, {QUELBRIFT_LINE_SHAPE, 8, 0, 0}},
+        {"(stow)\n\n", 3, {QUELBRIFT_LINE_SHAPE, 7, 0, 0}},
+        {"(stow 9", 3, {QUELBRIFT_LINE_SHAPE, 7, 0, 0}},
+        {"(stow 3)\n", 3, {QUELBRIFT_LINE_ORDER, 7, 0, 0}},
+        {"(stow 1 1)\n", 3, {QUELBRIFT_LINE_ORDER, 9, 0, 0}},
+        {"(stow 2 1)\n", 3, {QUELBRIFT_LINE_ORDER, 9, 0, 0}},
+    };
+    for (call = 0; call < LENGTH(lines); call++) {
+        const uint8_t *line = (const uint8_t *)lines[call].text;
+        quelbrift_answer answer = quelbrift_read_assignment(line, strlen(lines[call].text), lines[call].variables);
+        expect_answer(answer, lines[call].answer, lines[call].text, __LINE__);
+    }
+}
+
+static void run(void (*operation)(void))
+{
+    call = 0;
+    operation();
+}
+
+int main(void)
+{
+    run(check_read);
+    run(check_write);
+    run(check_write_unaccepted);
+    run(check_check);
+    run(check_evaluate);
+    run(check_count_models);
+    run(check_implies);
+    run(check_is_prime);
+    run(check_reduce);
+    run(check_list);
+    run(check_list_refusals);
+    run(check_view);
+    run(check_read_assignment);
+    if (failed > 0) {
+        printf("%u checks failed, %u passed\n", failed, passed);
+        return 1;
+    }
+    printf("%u checks passed\n", passed);
+    return 0;
+}

@@ -1,0 +1,49 @@
+//! The stated limits of a call: its stack, and that calls from several threads do not disturb one another.
+
+use crate::cases::listings::Listing;
+use crate::cases::questions::Asked;
+use crate::cases::questions::Question::{Check, Count, Evaluate, Implies, Prime, Reduce};
+use crate::cases::readings::Reading;
+use crate::cases::writings::Writing;
+use crate::circuits;
+use crate::compare::compare;
+use crate::oracle::table::Table;
+use crate::random::Random;
+use crate::tally::Tally;
+use crate::texts;
+
+/// What the header states, and what the comparison itself needs.
+const STATED_STACK: usize = 256 * 1024;
+const OWN_STACK: usize = 32 * 1024;
+
+/// The largest work of each kind; how many comparisons were made.
+fn largest_work(seed: u64) -> u64 {
+    let (random, mut tally) = (Random::new(seed), Tally::default());
+    let table = Table::of(40, &circuits::chain(&random, 8, 1_023));
+    for question in [Check, Count, Evaluate(7), Implies(0, 0), Prime(0, 0), Reduce(0), Reduce((1 << 40) - 1)] {
+        compare("limits", &Asked::new(table.clone(), question), &mut tally);
+    }
+    compare("limits", &Listing::new(table.clone(), 300, [307_200, 307_200, 1_024], seed), &mut tally);
+    compare("limits", &Writing::new(table, 40_000), &mut tally);
+    for depth in [16, 17, 3_000] {
+        compare("limits", &Reading::new(texts::deep(&random, depth).as_bytes(), 4_096), &mut tally);
+    }
+    compare("limits", &Reading::new(texts::largest(&random).as_bytes(), 4_096), &mut tally);
+    tally.total()
+}
+
+/// A call that needs more than the stated stack ends the process here.
+#[test]
+fn within_the_stated_stack() {
+    let small = std::thread::Builder::new().stack_size(STATED_STACK + OWN_STACK);
+    let compared = small.spawn(|| largest_work(0x6000_0000)).expect("a thread").join();
+    assert_eq!(compared.expect("no difference"), 13);
+}
+
+#[test]
+fn several_threads_at_once() {
+    let threads: Vec<_> =
+        (0..4).map(|seed| std::thread::spawn(move || (0..3).map(|more| largest_work(8 * seed + more)).sum::<u64>())).collect();
+    let compared: u64 = threads.into_iter().map(|thread| thread.join().expect("no difference")).sum();
+    assert_eq!(compared, 4 * 3 * 13);
+}

@@ -1,0 +1,14 @@
+//! The tests, one subject a file.
+
+mod damaged;
+mod limits;
+mod lines;
+mod listed;
+mod oracle;
+mod papers;
+mod questions;
+mod reading;
+mod regressions;
+mod small;
+mod wide;
+mod writing;

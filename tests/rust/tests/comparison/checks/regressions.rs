@@ -1,0 +1,31 @@
+//! Cases that a comparison once failed on, and cases with known answers: paste new ones here.
+
+use crate::cases::listings::{Listing, View};
+use crate::cases::questions::Asked;
+use crate::cases::questions::Question::{Check, Count, Evaluate, Implies, Prime, Reduce};
+use crate::cases::readings::{Line, Reading};
+use crate::cases::writings::Writing;
+use crate::compare::{compare, Case};
+use crate::oracle::table::Table;
+use crate::tally::Tally;
+
+fn again(case: impl Case) {
+    compare("regressions", &case, &mut Tally::default());
+}
+
+/// `(pick 0 (no 1) (pick 1 (yes 2) (true)))` over three variables.
+const WORKED: [u32; 20] = [3, 1, 0, 0, 2, 2, 0, 0, 1, 0, 0, 0, 4, 1, 1, 2, 4, 0, 0, 3];
+
+#[test]
+fn regressions() {
+    let worked = || Table::new(3, 5, &WORKED);
+    for question in [Check, Evaluate(5), Count, Implies(4, 2), Prime(4, 2), Reduce(7)] {
+        again(Asked::new(worked(), question));
+    }
+    again(Listing::new(worked(), 4, [20, 20, 5], 1));
+    again(Listing::new(worked(), 3, [15, 15, 5], 1));
+    again(Writing::new(worked(), 100));
+    again(View::new(20, 4, 4, 4));
+    again(Reading::new(b"(circuit 3)\n(pick 0 (no 1) (pick 1 (yes 2) (true)))\n", 20));
+    again(Line::new(b"(stow 0 2)\n", 3));
+}

@@ -1,0 +1,163 @@
+//! Up to 40 variables, up to 1,024 nodes, and up to 4,096 clearances and more.
+
+use super::listed::Listings;
+use super::questions::Questioning;
+use crate::cases::questions::Question::{Check, Count};
+use crate::circuits;
+use crate::oracle::table::{Node, Table};
+use crate::random::Random;
+use crate::tally::Tally;
+
+/// Few variables are named, anywhere among up to 40: every row over them can be tried.
+#[test]
+fn scattered_variables() {
+    let mut tally = Tally::default();
+    for seed in 0..3_000 {
+        let random = Random::of(0x4000_0000, seed);
+        let (named, variables) = (random.between(1, 7) as u32, random.choose(&[40, 40, random.between(9, 40)]) as u32);
+        let nodes = circuits::nodes(&random, named);
+        let table = Table::of(variables, &circuits::scattered(&random, &nodes, variables));
+        let origin = format!("scattered, seed {seed}");
+        ask_randomly(&mut Questioning::new(origin.clone(), &table, &mut tally), &random, 10);
+        let mut listings = Listings::new(origin, &table, &mut tally);
+        for capacity in [listings.whole(), listings.whole().saturating_sub(1), listings.whole() + 2] {
+            listings.list(capacity, listings.enough(capacity), seed);
+        }
+    }
+    tally.expect(&[
+        ("count", &[(1, 2_500)]),
+        ("evaluate", &[(0, 5_000), (1, 5_000), (31, 1_000)]),
+        ("implies", &[(0, 5_000), (1, 5_000), (32, 5_000)]),
+        ("prime", &[(0, 5_000), (1, 5_000), (32, 5_000)]),
+        ("reduce", &[(1, 5_000), (31, 1_000), (33, 5_000)]),
+        ("list", &[(1, 4_000), (42, 2_000)]),
+    ]);
+}
+
+/// The questions for random assignments, rows near them, and rows that are none.
+fn ask_randomly(questioning: &mut Questioning, random: &Random, times: u64) {
+    questioning.ask(Check);
+    questioning.ask(Count);
+    for _ in 0..times {
+        let assignment = random.next() & ((1 << questioning.table.variables) - 1);
+        questioning.ask_assignment(assignment);
+        questioning.ask_rows_near(random, assignment);
+    }
+    questioning.ask_invalid(random);
+}
+
+/// Circuits that name up to 40 variables, with up to 1,024 nodes: the oracle counts.
+#[test]
+fn many_variables_and_nodes() {
+    let mut tally = Tally::default();
+    for seed in 0..700 {
+        let random = Random::of(0x4100_0000, seed);
+        let variables = random.choose(&[40, 33, 32, 31, random.between(14, 40)]) as u32;
+        let nodes = match random.below(3) {
+            0 => circuits::built(&random, variables, 30),
+            1 => circuits::layered(&random, variables, random.between(2, 40)),
+            _ => circuits::chain(&random, variables, random.between(100, 1_000)),
+        };
+        let nodes = if random.once_in(2) { circuits::scattered(&random, &nodes, variables) } else { nodes };
+        let table = Table::of(variables, &nodes);
+        ask_randomly(&mut Questioning::new(format!("many, seed {seed}"), &table, &mut tally), &random, 5);
+    }
+    tally.expect(&[
+        ("check", &[(0, 700)]),
+        ("count", &[(1, 600)]),
+        ("evaluate", &[(0, 700), (1, 700), (31, 700)]),
+        ("implies", &[(0, 700), (1, 700), (32, 700)]),
+        ("prime", &[(0, 700), (1, 700), (32, 700)]),
+        ("reduce", &[(1, 700), (31, 700), (33, 700)]),
+    ]);
+}
+
+/// Lists at these capacities; how many clearances the circuit has.
+fn list_around(name: &str, variables: u32, nodes: &[Node], capacities: &[u32], tally: &mut Tally) -> u32 {
+    let table = Table::of(variables, nodes);
+    let mut listings = Listings::new(name.to_string(), &table, tally);
+    for &capacity in capacities {
+        listings.list(capacity, listings.enough(capacity), u64::from(capacity));
+    }
+    listings.whole()
+}
+
+/// As many clearances as a listing can hold, one too many for the room, and more than any listing holds.
+#[test]
+fn long_listings() {
+    let mut tally = Tally::default();
+    let odd = 0xaaaa_aaaa;
+    assert_eq!(list_around("parity of 13", 13, &circuits::symmetric(13, odd), &[4096, 4095], &mut tally), 4096);
+    assert_eq!(list_around("parity of 12", 12, &circuits::symmetric(12, odd), &[2048, 2047], &mut tally), 2048);
+    assert_eq!(list_around("3 to 6 of 9", 9, &circuits::symmetric(9, 0b111_1000), &[1680, 1679], &mut tally), 1680);
+    assert_eq!(list_around("3 to 7 of 10", 10, &circuits::symmetric(10, 0b1111_1000), &[4096], &mut tally), 4200);
+    tally.expect(&[("list", &[(1, 3), (42, 4)])]);
+}
+
+/// Conjunctions of circuits over different variables, up to 40 in all: the clearances are those of the parts, joined.
+#[test]
+fn conjunctions() {
+    let mut tally = Tally::default();
+    let mut longest = 0;
+    for seed in 0..150 {
+        let random = Random::of(0x4200_0000, seed);
+        let mut nodes = vec![Node::True];
+        let mut named = 0;
+        while named + 7 <= 40 && !random.once_in(12) {
+            let variables = random.between(1, 7) as u32;
+            let part = circuits::nodes(&random, variables);
+            if part.last() != Some(&Node::False) {
+                nodes = circuits::conjunction(&nodes, &part, named);
+                named += variables;
+            }
+        }
+        let table = Table::of(40, &circuits::scattered(&random, &nodes, 40));
+        let mut listings = Listings::new(format!("conjunctions, seed {seed}"), &table, &mut tally);
+        let whole = listings.whole();
+        let capacities = [whole, whole.saturating_sub(1), 64];
+        for capacity in capacities.map(|capacity| capacity.min(4_096)) {
+            listings.list(capacity, listings.enough(capacity), seed);
+        }
+        longest = longest.max(if whole <= 4_096 { whole } else { 0 });
+    }
+    assert!(longest > 2_000, "the longest listing has {longest} rows");
+    tally.expect(&[("list", &[(1, 100), (42, 100)])]);
+}
+
+/// Circuits of a middle size: hundreds of clearances, made from many joined rows.
+#[test]
+fn middle_listings() {
+    let mut tally = Tally::default();
+    let mut longest = 0;
+    for seed in 0..80 {
+        let random = Random::of(0x4300_0000, seed);
+        let variables = random.between(9, 10) as u32;
+        let nodes = match random.below(2) {
+            0 => circuits::layered(&random, variables, 12),
+            _ => circuits::symmetric(variables, random.next() & random.next()),
+        };
+        let table = Table::of(variables, &circuits::scattered(&random, &nodes, variables));
+        let mut listings = Listings::new(format!("middle, seed {seed}"), &table, &mut tally);
+        let whole = listings.whole();
+        for capacity in [whole, whole.saturating_sub(1)] {
+            listings.list(capacity, listings.enough(capacity), seed);
+        }
+        longest = longest.max(whole);
+    }
+    assert!(longest > 400, "the longest listing has {longest} rows");
+    tally.expect(&[("list", &[(1, 70), (42, 70)])]);
+}
+
+/// The most nodes with the most room for each.
+#[test]
+fn largest_listing() {
+    let mut tally = Tally::default();
+    let random = Random::of(0x4400_0000, 0);
+    let table = Table::of(40, &circuits::chain(&random, 8, 1_023));
+    assert_eq!(table.nodes, 1_024);
+    let mut listings = Listings::new("largest".to_string(), &table, &mut tally);
+    for capacity in [listings.whole(), 4_096] {
+        listings.list(capacity, listings.enough(capacity), 1);
+    }
+    tally.expect(&[("list", &[(1, 2)])]);
+}

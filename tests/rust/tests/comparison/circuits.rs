@@ -1,0 +1,204 @@
+//! Random tables that are accepted: every kind, shared children, a child that serves twice, deep nesting, constants.
+
+use crate::oracle::table::{in_order, reachable, supports, Node, Table};
+use crate::random::Random;
+
+/// The same circuit with its nodes in another order, children first.
+pub fn reordered(random: &Random, nodes: &[Node]) -> Vec<Node> {
+    let mut order: Vec<usize> = vec![];
+    let mut placed = vec![false; nodes.len()];
+    while order.len() < nodes.len() {
+        let ready: Vec<usize> = (0..nodes.len())
+            .filter(|&index| !placed[index] && nodes[index].children().iter().all(|&child| placed[child as usize]))
+            .collect();
+        let next = random.choose(&ready);
+        placed[next] = true;
+        order.push(next);
+    }
+    in_order(nodes, &order)
+}
+
+/// The same circuit over more variables, its own ones moved to other places.
+pub fn scattered(random: &Random, nodes: &[Node], variables: u32) -> Vec<Node> {
+    let mut places: Vec<u32> = (0..variables).collect();
+    random.shuffle(&mut places);
+    nodes.iter().map(|node| node.renamed(|variable| places[variable as usize], |child| child)).collect()
+}
+
+/// Builds a circuit from the top: each part gets the variables that it may name.
+struct Builder<'a> {
+    random: &'a Random,
+    nodes: Vec<Node>,
+}
+
+impl Builder<'_> {
+    fn push(&mut self, node: Node) -> u32 {
+        self.nodes.push(node);
+        self.nodes.len() as u32 - 1
+    }
+
+    /// A node that is there already and names allowed variables only.
+    fn shared(&mut self, allowed: u64) -> Option<u32> {
+        let supports = supports(&self.nodes);
+        let fitting: Vec<u32> =
+            (0..self.nodes.len()).filter(|&index| supports[index] & !allowed == 0).map(|index| index as u32).collect();
+        (!fitting.is_empty()).then(|| self.random.choose(&fitting))
+    }
+
+    fn leaf(&mut self, allowed: u64) -> u32 {
+        let node = match self.random.below(if allowed == 0 { 2 } else { 10 }) {
+            0 => Node::False,
+            1 => Node::True,
+            even if even % 2 == 0 => Node::Yes(self.random.bit_of(allowed)),
+            _ => Node::No(self.random.bit_of(allowed)),
+        };
+        self.push(node)
+    }
+
+    /// A part whose node is not `false`.
+    fn satisfiable(&mut self, allowed: u64, depth: u32) -> u32 {
+        let part = self.part(allowed, depth);
+        match self.nodes[part as usize] {
+            Node::False => self.push(Node::True),
+            _ => part,
+        }
+    }
+
+    fn part(&mut self, allowed: u64, depth: u32) -> u32 {
+        if self.random.once_in(5) {
+            if let Some(node) = self.shared(allowed) {
+                return node;
+            }
+        }
+        if depth == 0 || self.random.once_in(12) || self.nodes.len() > 60 {
+            return self.leaf(allowed);
+        }
+        if allowed == 0 || self.random.once_in(3) {
+            return self.both(allowed, depth);
+        }
+        self.pick(allowed, depth)
+    }
+
+    fn both(&mut self, allowed: u64, depth: u32) -> u32 {
+        let left = allowed & self.random.next();
+        let a = self.satisfiable(left, depth - 1);
+        let b = match supports(&self.nodes)[a as usize] {
+            0 if self.random.once_in(2) => a,
+            _ => self.satisfiable(allowed & !left, depth - 1),
+        };
+        self.push(Node::Both(a, b))
+    }
+
+    fn pick(&mut self, allowed: u64, depth: u32) -> u32 {
+        let variable = self.random.bit_of(allowed);
+        let rest = allowed & !(1 << variable);
+        let a = self.part(rest, depth - 1);
+        let b = match self.nodes[a as usize] {
+            Node::False => self.satisfiable(rest, depth - 1),
+            _ if self.random.once_in(8) => a,
+            _ => self.part(rest, depth - 1),
+        };
+        let (a, b) = if self.random.once_in(2) { (a, b) } else { (b, a) };
+        self.push(Node::Pick(variable, a, b))
+    }
+}
+
+/// A random circuit over these variables.
+pub fn built(random: &Random, variables: u32, depth: u32) -> Vec<Node> {
+    let mut builder = Builder { random, nodes: vec![] };
+    let last = builder.part((1 << variables) - 1, depth);
+    builder.nodes.truncate(last as usize + 1);
+    reachable(&builder.nodes)
+}
+
+/// A random decision diagram: a level a variable, each with a few nodes over the levels below, so that much is shared.
+pub fn layered(random: &Random, variables: u32, width: u64) -> Vec<Node> {
+    let mut nodes = vec![Node::False, Node::True];
+    let mut order: Vec<u32> = (0..variables).collect();
+    random.shuffle(&mut order);
+    for variable in order {
+        let below = nodes.len() as u64;
+        let nearest = below.saturating_sub(2 * width);
+        for _ in 0..random.between(1, width) {
+            let a = random.between(nearest, below - 1) as u32;
+            let b = if a == 0 { random.between(1, below - 1) as u32 } else { random.between(nearest, below - 1) as u32 };
+            nodes.push(Node::Pick(variable, a, b));
+        }
+    }
+    reachable(&nodes)
+}
+
+/// True where the number of true variables is one of these (bit i of the mask: i of them). Has many clearances.
+pub fn symmetric(variables: u32, numbers: u64) -> Vec<Node> {
+    let mut nodes = vec![Node::False, Node::True];
+    // The functions of the variables from some one on, by how many before it are true.
+    let mut level: Vec<u32> = (0..=variables).map(|number| (numbers >> number & 1) as u32).collect();
+    for variable in (0..variables).rev() {
+        let above = |number: u32, nodes: &mut Vec<Node>| {
+            let (a, b) = (level[number as usize], level[number as usize + 1]);
+            if a == b {
+                return a;
+            }
+            nodes.push(Node::Pick(variable, a, b));
+            nodes.len() as u32 - 1
+        };
+        level = (0..=variable).map(|number| above(number, &mut nodes)).collect();
+    }
+    nodes.truncate(level[0] as usize + 1);
+    reachable(&nodes)
+}
+
+/// A long chain: `both` with constants, or the same part under a `pick` once for each variable.
+pub fn chain(random: &Random, variables: u32, length: u64) -> Vec<Node> {
+    let mut nodes = vec![Node::True];
+    let mut free: Vec<u32> = (0..variables).collect();
+    random.shuffle(&mut free);
+    for _ in 0..length {
+        let (last, any) = (nodes.len() as u32 - 1, random.position(nodes.len()) as u32);
+        let constant = supports(&nodes)[any as usize] == 0;
+        let node = match free.last() {
+            Some(&variable) if random.once_in(3) => {
+                free.pop();
+                Node::Pick(variable, last, if random.once_in(3) { last } else { any })
+            }
+            _ if constant && random.once_in(2) => Node::Both(any, last),
+            _ => Node::Both(last, 0),
+        };
+        nodes.push(node);
+    }
+    reachable(&nodes)
+}
+
+/// Conjunction of two circuits over different variables: the second one's are moved up by the first one's.
+pub fn conjunction(first: &[Node], second: &[Node], moved: u32) -> Vec<Node> {
+    let start = first.len() as u32;
+    let mut nodes = first.to_vec();
+    nodes.extend(second.iter().map(|node| node.renamed(|variable| variable + moved, |child| child + start)));
+    nodes.push(Node::Both(start - 1, start + second.len() as u32 - 1));
+    nodes
+}
+
+/// A random accepted circuit over that many variables, of any of the kinds above.
+pub fn nodes(random: &Random, variables: u32) -> Vec<Node> {
+    let nodes = match random.below(10) {
+        0..=4 => built(random, variables, random.between(0, 9) as u32),
+        5..=7 => layered(random, variables, random.between(1, 5)),
+        8 => symmetric(variables, random.next()),
+        _ => chain(random, variables, random.between(1, 25)),
+    };
+    match random.below(3) {
+        0 => reordered(random, &nodes),
+        1 => scattered(random, &nodes, variables),
+        _ => nodes,
+    }
+}
+
+/// A random accepted table; words that are not read follow it at times.
+pub fn table(random: &Random, variables: u32) -> Table {
+    let mut table = Table::of(variables, &nodes(random, variables));
+    if random.once_in(3) {
+        let surplus = random.between(1, 9);
+        table.words.extend((0..surplus).map(|_| random.next() as u32));
+    }
+    table
+}

@@ -1,0 +1,66 @@
+//! The archive's answers in the oracle's types. A wrapper's panic (an answer that no paper allows) is caught, so that it can be
+//! shown with the case that led to it.
+
+use crate::oracle::function::Term;
+use crate::oracle::listing::Buffers;
+use crate::oracle::table::Table;
+use crate::oracle::Refused;
+use std::cell::Cell;
+use std::panic::{catch_unwind, set_hook, take_hook, AssertUnwindSafe};
+use std::sync::Once;
+
+thread_local! {
+    static CATCHING: Cell<bool> = const { Cell::new(false) };
+}
+
+/// Prints no panic that is caught here.
+fn quiet_while_catching() {
+    static ONCE: Once = Once::new();
+    ONCE.call_once(|| {
+        let usual = take_hook();
+        set_hook(Box::new(move |info| {
+            if !CATCHING.get() {
+                usual(info)
+            }
+        }));
+    });
+}
+
+/// What the closure returns, or its panic as words.
+pub fn caught<T>(work: impl FnOnce() -> T) -> Result<T, String> {
+    quiet_while_catching();
+    let outside = CATCHING.replace(true);
+    let result = catch_unwind(AssertUnwindSafe(work));
+    CATCHING.set(outside);
+    result.map_err(|panic| match panic.downcast::<String>() {
+        Ok(words) => *words,
+        Err(_) => "a panic without words".to_string(),
+    })
+}
+
+pub fn lent(table: &Table) -> quelbrift::Table<'_> {
+    quelbrift::Table { words: &table.words, variables: table.variables, nodes: table.nodes }
+}
+
+pub fn term(term: Term) -> quelbrift::Term {
+    quelbrift::Term { positive: term.positive, negative: term.negative }
+}
+
+pub fn own<T>(answer: Result<T, quelbrift::Refusal>) -> Result<T, Refused> {
+    answer.map_err(|refusal| Refused { number: refusal.number, place: refusal.place })
+}
+
+/// Entries on both sides of a lent part, which nobody lent: watched too, and enough to show most writes outside the lent part.
+pub const MARGIN: usize = 64;
+
+/// Lends the middle of a list with margins.
+pub fn middle<T>(list: &mut [T]) -> &mut [T] {
+    let end = list.len() - MARGIN;
+    &mut list[MARGIN..end]
+}
+
+/// Lists into the middles of three lists with margins.
+pub fn list(table: &Table, capacity: u32, lists: &mut Buffers) -> Result<(), Refused> {
+    let Buffers { positives, negatives, counts } = lists;
+    own(quelbrift::list(lent(table), capacity, middle(positives), middle(negatives), middle(counts)))
+}

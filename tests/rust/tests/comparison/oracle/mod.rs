@@ -1,0 +1,25 @@
+//! A second engine, written from the papers alone: plain, not fast. It tries every assignment and every row, and shares no code
+//! with the archive or its wrapper.
+
+pub mod answers;
+pub mod assignment_line;
+pub mod counting;
+pub mod function;
+pub mod grammar;
+pub mod listing;
+pub mod rows;
+pub mod table;
+pub mod text;
+pub mod view;
+pub mod writer;
+
+/// A refusal: its number, and its byte, its node or the needed length.
+#[derive(Clone, Copy, Debug, PartialEq, Eq)]
+pub struct Refused {
+    pub number: u32,
+    pub place: u64,
+}
+
+pub fn refused<T>(number: u32, place: u64) -> Result<T, Refused> {
+    Err(Refused { number, place })
+}

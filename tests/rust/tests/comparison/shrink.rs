@@ -1,0 +1,105 @@
+//! Smaller tables, texts and numbers, for small reproducers.
+
+use crate::oracle::table::Table;
+
+/// Smaller numbers: 0, the half, one less.
+pub fn numbers(number: u64) -> Vec<u64> {
+    let mut smaller = vec![0, number / 2, number.saturating_sub(1)];
+    smaller.retain(|&candidate| candidate < number);
+    smaller.dedup();
+    smaller
+}
+
+/// Smaller masks: without one of their bits; with the highest one moved down.
+pub fn masks(mask: u64) -> Vec<u64> {
+    let without = (0..64).filter(|bit| mask >> bit & 1 == 1).map(|bit| mask & !(1 << bit));
+    without.chain([mask >> 1]).filter(|&candidate| candidate < mask).collect()
+}
+
+/// Shorter lists: without a slice (half of it, a quarter, ... one item).
+pub fn lists<T: Clone>(list: &[T]) -> Vec<Vec<T>> {
+    let mut shorter = vec![];
+    let mut length = list.len();
+    while length > 0 {
+        for start in (0..=list.len() - length).step_by(length) {
+            shorter.push([&list[..start], &list[start + length..]].concat());
+        }
+        length /= 2;
+    }
+    shorter
+}
+
+/// Shorter texts, and texts with a lower digit.
+pub fn texts(text: &[u8]) -> Vec<Vec<u8>> {
+    let mut smaller = lists(text);
+    for place in (0..text.len()).filter(|&place| (b'1'..=b'9').contains(&text[place])) {
+        let mut lower = text.to_vec();
+        lower[place] = b'0';
+        smaller.push(lower.clone());
+        lower[place] = text[place] - 1;
+        smaller.push(lower);
+    }
+    smaller
+}
+
+/// The table without one node; what pointed to it points to another one, and the numbers above it fall by one.
+fn without_node(table: &Table, removed: u32, instead: u32) -> Table {
+    let mut words = vec![];
+    for (index, node) in table.words.chunks(4).enumerate().filter(|(index, _)| *index != removed as usize) {
+        let kept = index < table.nodes as usize;
+        let renumber = |child: u32| match child {
+            _ if child == removed => instead,
+            _ if child > removed && kept => child - 1,
+            _ => child,
+        };
+        match node {
+            [kind @ 4..=5, variable, a, b] => words.extend([*kind, *variable, renumber(*a), renumber(*b)]),
+            _ => words.extend(node),
+        }
+    }
+    Table { nodes: table.nodes - 1, words, ..*table }
+}
+
+fn without_nodes(table: &Table) -> Vec<Table> {
+    let mut smaller = vec![];
+    let whole = (table.nodes as usize).min(table.words.len() / 4) as u32;
+    for nodes in numbers(u64::from(whole)) {
+        smaller.push(Table { nodes: nodes as u32, ..table.clone() });
+    }
+    for removed in (0..whole).rev() {
+        let start = 4 * removed as usize;
+        let below = removed.saturating_sub(1);
+        for instead in [table.words[start + 2], table.words[start + 3], below, 0] {
+            smaller.push(without_node(table, removed, instead));
+        }
+    }
+    smaller
+}
+
+/// Smaller tables: fewer words, fewer nodes, fewer variables, simpler nodes, lower words.
+pub fn tables(table: &Table) -> Vec<Table> {
+    let needed = (4 * table.nodes as usize).min(table.words.len());
+    let mut smaller = vec![];
+    if table.words.len() > needed {
+        smaller.push(Table { words: table.words[..needed].to_vec(), ..table.clone() });
+    }
+    smaller.extend(without_nodes(table));
+    for variables in numbers(u64::from(table.variables)) {
+        smaller.push(Table { variables: variables as u32, ..table.clone() });
+    }
+    for nodes in numbers(u64::from(table.nodes)) {
+        smaller.push(Table { nodes: nodes as u32, ..table.clone() });
+    }
+    let mut change = |start: usize, new: &[u32]| {
+        let mut words = table.words.clone();
+        words[start..start + new.len()].copy_from_slice(new);
+        smaller.push(Table { words, ..table.clone() });
+    };
+    for start in (0..needed / 4 * 4).step_by(4).filter(|&start| table.words[start] > 1) {
+        change(start, &[1, 0, 0, 0]);
+    }
+    for index in 0..table.words.len() {
+        numbers(u64::from(table.words[index])).iter().for_each(|&lower| change(index, &[lower as u32]));
+    }
+    smaller
+}

@@ -106,9 +106,14 @@ fn copy(to: &mut [u64], from: &[u64], at: usize, count: usize)
 }
 
 // Makes the terms of a node in the part of capacity entries from `at` on; its children's terms stand from a and from b on.
+// They are copied to the fronts of ap, an, bp and bn: scratch, and what it holds before and after is left free.
 fn fill_part(
     positives: &mut [u64],
     negatives: &mut [u64],
+    ap: &mut [u64],
+    an: &mut [u64],
+    bp: &mut [u64],
+    bn: &mut [u64],
     capacity: usize,
     at: usize,
     gate: Gate,
@@ -119,21 +124,17 @@ fn fill_part(
 ) -> Kept
     requires { ⌜ Named (gateNode gate) × (capacity ≤ 4096) × (ca ≤ capacity) × (cb ≤ capacity) ⌝ }
     requires { ⌜ (a + capacity ≤ length (now positives)) × (b + capacity ≤ length (now positives))
-        × (at + capacity ≤ length (now positives)) ⌝ }
-    requires { ⌜ length (now negatives) ≡ length (now positives) ⌝ }
+        × (at + capacity ≤ length (now positives)) × (length (now negatives) ≡ length (now positives)) ⌝ }
+    requires { ⌜ (length (now ap) ≡ 4096) × (length (now an) ≡ 4096) × (length (now bp) ≡ 4096) × (length (now bn) ≡ 4096) ⌝ }
     ensures { λ r. ⌜ PartFilled (nodeMade (gateNode gate) (termsFrom (bySign (now (positives .entry)) (now (negatives .entry))) a ca)
         (termsFrom (bySign (now (positives .entry)) (now (negatives .entry))) b cb)) at capacity
         (bySign (now (positives .entry)) (now (negatives .entry)))
         (bySign (now (positives .exit)) (now (negatives .exit))) r ⌝ }
 {
-    let mut ap = [0u64; 4096];
-    let mut an = [0u64; 4096];
-    let mut bp = [0u64; 4096];
-    let mut bn = [0u64; 4096];
-    copy(&mut ap, positives, a, ca);
-    copy(&mut an, negatives, a, ca);
-    copy(&mut bp, positives, b, cb);
-    copy(&mut bn, negatives, b, cb);
+    copy(ap, positives, a, ca);
+    copy(an, negatives, a, ca);
+    copy(bp, positives, b, cb);
+    copy(bn, negatives, b, cb);
     let end = at + capacity;
     make(
         &mut positives[at..end],
@@ -154,10 +155,14 @@ fn count_at(counts: &[u32], k: usize) -> usize
     counts[k] as usize
 }
 
-// Makes the terms of node i in its part of the buffers.
+// Makes the terms of node i in its part of the buffers; ap, an, bp and bn are scratch for the terms of its children.
 pub fn fill_node(
     positives: &mut [u64],
     negatives: &mut [u64],
+    ap: &mut [u64],
+    an: &mut [u64],
+    bp: &mut [u64],
+    bn: &mut [u64],
     counts: &[u32],
     words: &[u32],
     i: usize,
@@ -166,6 +171,7 @@ pub fn fill_node(
     requires { ⌜ (i < 1024) × (capacity ≤ 4096) × (nodeWords * i + nodeWords ≤ length (now words)) × (i < length (now counts)) ⌝ }
     requires { ⌜ Ready i (nodeAt (now words) i) × ((k : ℕ) → k ≤ i → getD (now counts) k 0 ≤ capacity) ⌝ }
     requires { ⌜ (i * capacity + capacity ≤ length (now positives)) × (length (now negatives) ≡ length (now positives)) ⌝ }
+    requires { ⌜ (length (now ap) ≡ 4096) × (length (now an) ≡ 4096) × (length (now bp) ≡ 4096) × (length (now bn) ≡ 4096) ⌝ }
     ensures { λ r. ⌜ PartFilled (nodeTermsFrom (nodeAt (now (words .entry)) i) capacity (now (counts .entry))
         (bySign (now (positives .entry)) (now (negatives .entry)))) (i * capacity) capacity
         (bySign (now (positives .entry)) (now (negatives .entry)))
@@ -173,19 +179,19 @@ pub fn fill_node(
 {
     let gate = circuits::gate_at(words, i);
     let below = children_of(gate);
-    let a = below.left;
-    let b = below.right;
-    let ca = count_at(counts, a);
-    let cb = count_at(counts, b);
     fill_part(
         positives,
         negatives,
+        ap,
+        an,
+        bp,
+        bn,
         capacity,
         i * capacity,
         gate,
-        a * capacity,
-        ca,
-        b * capacity,
-        cb,
+        below.left * capacity,
+        count_at(counts, below.left),
+        below.right * capacity,
+        count_at(counts, below.right),
     )
 }

@@ -50,7 +50,7 @@ fn clear(positives: &mut [u64], negatives: &mut [u64], counts: &mut [u32])
 }
 
 // Fills the nodes' parts of buffers of zeros, the lowest node first; false where a node has more terms than the capacity.
-// `variables` is there for the contract.
+// `variables` is there for the contract; ap, an, bp and bn are scratch for the terms of a node's children, made once for all nodes.
 fn fill_all(
     positives: &mut [u64],
     negatives: &mut [u64],
@@ -65,10 +65,24 @@ fn fill_all(
     ensures { λ r. ⌜ Tried variables n (now (words .entry)) capacity (bySign (now (positives .exit)) (now (negatives .exit)))
         (now (counts .exit)) r ⌝ }
 {
+    let mut ap = [0u64; 4096];
+    let mut an = [0u64; 4096];
+    let mut bp = [0u64; 4096];
+    let mut bn = [0u64; 4096];
     let mut i = 0;
     while i < n {
-        let Kept::Count(c) = nodes::fill_node(positives, negatives, counts, words, i, capacity)
-        else {
+        let Kept::Count(c) = nodes::fill_node(
+            positives,
+            negatives,
+            &mut ap,
+            &mut an,
+            &mut bp,
+            &mut bn,
+            counts,
+            words,
+            i,
+            capacity,
+        ) else {
             return false;
         };
         counts[i] = c as u32;

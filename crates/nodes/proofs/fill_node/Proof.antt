@@ -15,7 +15,14 @@ use Rattle.nodes.proofs.fill_node.Statement.{statement}
 use Rattle.nodes.proofs.fill_node.Tie as tie
 
 abbrev start : tie.After-children-of → tie.Start
-start h = h .before .before .before .before .before .before
+start h = h .before .before .before .before .before .before .before .before .before .before
+
+-- where the children are read, from the places of the two counts
+abbrev read : tie.After-struct-known → tie.After-children-of
+read k = k .before .before .before .before .before .before .before
+
+abbrev read2 : tie.After-struct-known2 → tie.After-children-of
+read2 k = read (k .before .before)
 
 abbrev node : tie.Start → Node
 node s = nodeAt (s .args .words .now) (s .args .i)
@@ -49,44 +56,44 @@ gate-at-requires c κs = search needs
 children-of-requires : tie.Need-children-of-requires
 children-of-requires c κs = search needs
 
-count-at-requires : tie.Need-count-at-requires
-count-at-requires c κs = omega (arith, left-le c, start c .pre .0 .3)
-
-count-at-requires-2 : tie.Need-count-at-requires-2
-count-at-requires-2 c κs = let h = c .before in omega (arith, right-le h, start h .pre .0 .3)
-
 mul-fill-part : tie.Need-mul-fill-part
 mul-fill-part c = search needs
 
 mul-fill-part-2 : tie.Need-mul-fill-part-2
 mul-fill-part-2 c =
-    let h = c .before .before .before .before in
+    let h = read c in
     let s = start h in
     record { fits = product (h .children-of .result .left) (s .args .i) (s .args .capacity) (left-le h) (s .pre .0 .0) (s .pre .0 .1) }
 
+count-at-requires : tie.Need-count-at-requires
+count-at-requires c κs = let h = read c in omega (arith, left-le h, start h .pre .0 .3)
+
 mul-fill-part-3 : tie.Need-mul-fill-part-3
 mul-fill-part-3 c =
-    let h = c .before .before .before .before in
+    let h = read2 c in
     let s = start h in
     record { fits = product (h .children-of .result .right) (s .args .i) (s .args .capacity) (right-le h) (s .pre .0 .0) (s .pre .0 .1) }
 
+count-at-requires-2 : tie.Need-count-at-requires-2
+count-at-requires-2 c κs = let h = read2 c in omega (arith, right-le h, start h .pre .0 .3)
+
 fill-part-requires : tie.Need-fill-part-requires
 fill-part-requires c κs =
-    let n = c .before .before in
-    let h = n .before .before in
+    let h = read2 (c .before) in
     let s = start h in
     let x = s .args in
     let a : ℕ = h .children-of .result .left in
     let b : ℕ = h .children-of .result .right in
-    let ca : n .before .count-at .result ≤ x .capacity =
-    le-trans (le-of-eq (n .before .count-at .ensures)) (s .pre .1 .0 .1 a (left-le h)) in
-    let cb : n .count-at2 .result ≤ x .capacity = le-trans (le-of-eq (n .count-at2 .ensures)) (s .pre .1 .0 .1 b (right-le h)) in (
+    let k = c .before .before in
+    let ca : k .count-at .result ≤ x .capacity = le-trans (le-of-eq (k .count-at .ensures)) (s .pre .1 .0 .1 a (left-le h)) in
+    let cb : c .count-at2 .result ≤ x .capacity = le-trans (le-of-eq (c .count-at2 .ensures)) (s .pre .1 .0 .1 b (right-le h)) in (
       (subst Named (sym (h .before .gate-at .ensures)) (s .pre .1 .0 .0 .named), s .pre .0 .1, ca, cb),
       (
         (
-          below a (x .i) (x .capacity) (length (x .positives .now)) (left-le h) (s .pre .1 .1 .0),
-          below b (x .i) (x .capacity) (length (x .positives .now)) (right-le h) (s .pre .1 .1 .0),
-          s .pre .1 .1 .0,
+          below a (x .i) (x .capacity) (length (x .positives .now)) (left-le h) (s .pre .1 .1 .0 .0),
+          below b (x .i) (x .capacity) (length (x .positives .now)) (right-le h) (s .pre .1 .1 .0 .0),
+          s .pre .1 .1 .0 .0,
+          s .pre .1 .1 .0 .1,
         ),
         s .pre .1 .1 .1,
       ),
@@ -98,18 +105,31 @@ same-length c = search needs
 same-length-2 : tie.Need-same-length-2
 same-length-2 c = search needs
 
+same-length-3 : tie.Need-same-length-3
+same-length-3 c = search needs
+
+same-length-4 : tie.Need-same-length-4
+same-length-4 c = search needs
+
+same-length-5 : tie.Need-same-length-5
+same-length-5 c = search needs
+
+same-length-6 : tie.Need-same-length-6
+same-length-6 c = search needs
+
 returns : tie.Need-returns
 returns c =
-    let p = c .before .before .before .before in
-    let n = p .before .before .before in
-    let h = n .before .before in
+    let p = c .before .before .before .before .before .before .before .before .before .before .before .before in
+    let n = p .before in
+    let k = n .before .before in
+    let h = read (k .before) in
     let s = start h in
     let x = s .args in
     let t : Bool → List ℕ = bySign (x .positives .now) (x .negatives .now) in
-    let ca : n .before .count-at .result ≡ getD (x .counts .now) (childAt (node s) 0) 0 =
-    n .before .count-at .ensures ∙ ap (λ (k : ℕ). getD (x .counts .now) k 0) (left h) in
+    let ca : k .count-at .result ≡ getD (x .counts .now) (childAt (node s) 0) 0 =
+    k .count-at .ensures ∙ ap (λ (m : ℕ). getD (x .counts .now) m 0) (left h) in
     let cb : n .count-at2 .result ≡ getD (x .counts .now) (childAt (node s) 1) 0 =
-    n .count-at2 .ensures ∙ ap (λ (k : ℕ). getD (x .counts .now) k 0) (right h) in
+    n .count-at2 .ensures ∙ ap (λ (m : ℕ). getD (x .counts .now) m 0) (right h) in
     subst
     (λ (l : List Term). PartFilled l (x .i * x .capacity) (x .capacity) t
     (bySign (p .fill-part .last .0) (p .fill-part .last .1 .0)) (p .fill-part .result))
@@ -123,12 +143,16 @@ fill-node-spec =
     (tie.spec
     gate-at-requires
     children-of-requires
-    count-at-requires
-    count-at-requires-2
     mul-fill-part
     mul-fill-part-2
+    count-at-requires
     mul-fill-part-3
+    count-at-requires-2
     fill-part-requires
     same-length
     same-length-2
+    same-length-3
+    same-length-4
+    same-length-5
+    same-length-6
     returns)

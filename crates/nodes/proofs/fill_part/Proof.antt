@@ -18,51 +18,52 @@ use Rattle.nodes.proofs.fill_part.Statement.{statement}
 use Rattle.nodes.proofs.fill_part.Tie as tie
 
 -- the four copies
-abbrev copy-bn : tie.After-bn2 → tie.After-copy4
-copy-bn q = q .before
+abbrev copy-bn : tie.After-slice-known10 → tie.After-copy4
+copy-bn q = q .before .before
 
-abbrev copy-bp : tie.After-bn2 → tie.After-copy3
-copy-bp q = copy-bn q .before .before .before .before
+abbrev copy-bp : tie.After-slice-known10 → tie.After-copy3
+copy-bp q = copy-bn q .before .before .before .before .before
 
-abbrev copy-an : tie.After-bn2 → tie.After-copy2
-copy-an q = copy-bp q .before .before .before .before
+abbrev copy-an : tie.After-slice-known10 → tie.After-copy2
+copy-an q = copy-bp q .before .before .before .before .before
 
-abbrev copy-ap : tie.After-bn2 → tie.After-copy
-copy-ap q = copy-an q .before .before .before .before
+abbrev copy-ap : tie.After-slice-known10 → tie.After-copy
+copy-ap q = copy-an q .before .before .before .before .before
 
-abbrev start : tie.After-bn2 → tie.Start
-start q = copy-ap q .before .before .before .before .before
+abbrev start : tie.After-slice-known10 → tie.Start
+start q = copy-ap q .before .before .before .before .before .before .before .before .before
 
--- the front of a local array
-front : (n capacity : ℕ) (l : List ℕ) → n ≤ capacity → capacity ≤ 4096 → length l ≡ 4096 → length (take n l) ≡ n
-front n capacity l h k e = length-take-le n l (omega arith)
+-- each scratch slice has place for the terms that were copied, and its front holds just them
+long-ap : (q : tie.After-slice-known10) → start q .args .ca ≤ length (copy-ap q .copy .last .0)
+long-ap q = let s = start q in omega (arith, s .pre .0 .1, s .pre .0 .2, s .pre .1 .1 .0, copy-ap q .copy .kept .0)
 
-front-ap : (q : tie.After-bn2) → length (take (start q .args .ca) (copy-ap q .copy .last .0)) ≡ start q .args .ca
-front-ap q =
-    let s = start q in
-    front (s .args .ca) (s .args .capacity) (copy-ap q .copy .last .0) (s .pre .0 .2) (s .pre .0 .1) (copy-ap q .copy .kept .0)
+long-an : (q : tie.After-slice-known10) → start q .args .ca ≤ length (copy-an q .copy2 .last .0)
+long-an q = let s = start q in omega (arith, s .pre .0 .1, s .pre .0 .2, s .pre .1 .1 .1, copy-an q .copy2 .kept .0)
 
-front-an : (q : tie.After-bn2) → length (take (start q .args .ca) (copy-an q .copy2 .last .0)) ≡ start q .args .ca
-front-an q =
-    let s = start q in
-    front (s .args .ca) (s .args .capacity) (copy-an q .copy2 .last .0) (s .pre .0 .2) (s .pre .0 .1) (copy-an q .copy2 .kept .0)
+long-bp : (q : tie.After-slice-known10) → start q .args .cb ≤ length (copy-bp q .copy3 .last .0)
+long-bp q = let s = start q in omega (arith, s .pre .0 .1, s .pre .0 .3, s .pre .1 .1 .2, copy-bp q .copy3 .kept .0)
 
-front-bp : (q : tie.After-bn2) → length (take (start q .args .cb) (copy-bp q .copy3 .last .0)) ≡ start q .args .cb
-front-bp q =
-    let s = start q in
-    front (s .args .cb) (s .args .capacity) (copy-bp q .copy3 .last .0) (s .pre .0 .3) (s .pre .0 .1) (copy-bp q .copy3 .kept .0)
+long-bn : (q : tie.After-slice-known10) → start q .args .cb ≤ length (copy-bn q .copy4 .last .0)
+long-bn q = let s = start q in omega (arith, s .pre .0 .1, s .pre .0 .3, s .pre .1 .1 .3, copy-bn q .copy4 .kept .0)
 
-front-bn : (q : tie.After-bn2) → length (take (start q .args .cb) (copy-bn q .copy4 .last .0)) ≡ start q .args .cb
-front-bn q =
-    let s = start q in
-    front (s .args .cb) (s .args .capacity) (copy-bn q .copy4 .last .0) (s .pre .0 .3) (s .pre .0 .1) (copy-bn q .copy4 .kept .0)
+front-ap : (q : tie.After-slice-known10) → length (take (start q .args .ca) (copy-ap q .copy .last .0)) ≡ start q .args .ca
+front-ap q = length-take-le (start q .args .ca) (copy-ap q .copy .last .0) (long-ap q)
+
+front-an : (q : tie.After-slice-known10) → length (take (start q .args .ca) (copy-an q .copy2 .last .0)) ≡ start q .args .ca
+front-an q = length-take-le (start q .args .ca) (copy-an q .copy2 .last .0) (long-an q)
+
+front-bp : (q : tie.After-slice-known10) → length (take (start q .args .cb) (copy-bp q .copy3 .last .0)) ≡ start q .args .cb
+front-bp q = length-take-le (start q .args .cb) (copy-bp q .copy3 .last .0) (long-bp q)
+
+front-bn : (q : tie.After-slice-known10) → length (take (start q .args .cb) (copy-bn q .copy4 .last .0)) ≡ start q .args .cb
+front-bn q = length-take-le (start q .args .cb) (copy-bn q .copy4 .last .0) (long-bn q)
 
 -- the buffers, and the node's part of them
 abbrev slices : tie.Start → Bool → List ℕ
 slices s = bySign (s .args .positives .now) (s .args .negatives .now)
 
 evens : (s : tie.Start) → Even (slices s)
-evens s = even (s .args .positives .now) (s .args .negatives .now) (s .pre .1 .1)
+evens s = even (s .args .positives .now) (s .args .negatives .now) (s .pre .1 .0 .3)
 
 size : (s : tie.Start) → s .args .at + s .args .capacity - s .args .at ≡ s .args .capacity
 size s = omega arith
@@ -78,26 +79,14 @@ part-size s b =
     ap length (part-is s b)
     ∙ length-part (s .args .at) (s .args .capacity) (slices s b) (rw (evens s b) (s .pre .1 .0 .2))
 
-slice-aggregate-copy : tie.Need-slice-aggregate-copy
-slice-aggregate-copy c = search needs
-
 copy-requires : tie.Need-copy-requires
 copy-requires c κs = search needs
-
-slice-aggregate-copy-2 : tie.Need-slice-aggregate-copy-2
-slice-aggregate-copy-2 c = search needs
 
 copy-requires-2 : tie.Need-copy-requires-2
 copy-requires-2 c κs = search needs
 
-slice-aggregate-copy-3 : tie.Need-slice-aggregate-copy-3
-slice-aggregate-copy-3 c = search needs
-
 copy-requires-3 : tie.Need-copy-requires-3
 copy-requires-3 c κs = search needs
-
-slice-aggregate-copy-4 : tie.Need-slice-aggregate-copy-4
-slice-aggregate-copy-4 c = search needs
 
 copy-requires-4 : tie.Need-copy-requires-4
 copy-requires-4 c κs = search needs
@@ -127,28 +116,28 @@ part-make-start-2 : tie.Need-part-make-start-2
 part-make-start-2 c = search needs
 
 part-make-end-2 : tie.Need-part-make-end-2
-part-make-end-2 c = search needs
+part-make-end-2 c = let s = start (c .before) in rw (s .pre .1 .0 .3) (s .pre .1 .0 .2)
 
-array-share-prefix-ap : tie.Need-array-share-prefix-ap
-array-share-prefix-ap c = search needs
+slice-reshare-prefix-make : tie.Need-slice-reshare-prefix-make
+slice-reshare-prefix-make c = long-ap (c .before .before)
 
 slice-aggregate-make : tie.Need-slice-aggregate-make
 slice-aggregate-make c = sym (front-ap (c .before .before .before))
 
-array-share-prefix-an : tie.Need-array-share-prefix-an
-array-share-prefix-an c = search needs
+slice-reshare-prefix-make-2 : tie.Need-slice-reshare-prefix-make-2
+slice-reshare-prefix-make-2 c = long-an (c .before .before .before)
 
 slice-aggregate-make-2 : tie.Need-slice-aggregate-make-2
 slice-aggregate-make-2 c = sym (front-an (c .before .before .before .before))
 
-array-share-prefix-bp : tie.Need-array-share-prefix-bp
-array-share-prefix-bp c = search needs
+slice-reshare-prefix-make-3 : tie.Need-slice-reshare-prefix-make-3
+slice-reshare-prefix-make-3 c = long-bp (c .before .before .before .before)
 
 slice-aggregate-make-3 : tie.Need-slice-aggregate-make-3
 slice-aggregate-make-3 c = sym (front-bp (c .before .before .before .before .before))
 
-array-share-prefix-bn : tie.Need-array-share-prefix-bn
-array-share-prefix-bn c = search needs
+slice-reshare-prefix-make-4 : tie.Need-slice-reshare-prefix-make-4
+slice-reshare-prefix-make-4 c = long-bn (c .before .before .before .before .before)
 
 slice-aggregate-make-4 : tie.Need-slice-aggregate-make-4
 slice-aggregate-make-4 c = sym (front-bn (c .before .before .before .before .before .before))
@@ -166,6 +155,18 @@ same-length c = search needs
 
 same-length-2 : tie.Need-same-length-2
 same-length-2 c = search needs
+
+same-length-3 : tie.Need-same-length-3
+same-length-3 c = search needs
+
+same-length-4 : tie.Need-same-length-4
+same-length-4 c = search needs
+
+same-length-5 : tie.Need-same-length-5
+same-length-5 c = search needs
+
+same-length-6 : tie.Need-same-length-6
+same-length-6 c = search needs
 
 returns : tie.Need-returns
 returns c =
@@ -200,13 +201,9 @@ pub fill-part-spec : {M : Type 1} → statement M
 fill-part-spec =
     tie.close
     (tie.spec
-    slice-aggregate-copy
     copy-requires
-    slice-aggregate-copy-2
     copy-requires-2
-    slice-aggregate-copy-3
     copy-requires-3
-    slice-aggregate-copy-4
     copy-requires-4
     add-end
     mul-make
@@ -217,15 +214,19 @@ fill-part-spec =
     sub-make-2
     part-make-start-2
     part-make-end-2
-    array-share-prefix-ap
+    slice-reshare-prefix-make
     slice-aggregate-make
-    array-share-prefix-an
+    slice-reshare-prefix-make-2
     slice-aggregate-make-2
-    array-share-prefix-bp
+    slice-reshare-prefix-make-3
     slice-aggregate-make-3
-    array-share-prefix-bn
+    slice-reshare-prefix-make-4
     slice-aggregate-make-4
     make-requires
     same-length
     same-length-2
+    same-length-3
+    same-length-4
+    same-length-5
+    same-length-6
     returns)

@@ -1,23 +1,24 @@
 -- The code's search for a shorter join, and that it finds one exactly if some join is inside the term and has fewer literals.
 use Prim.Native.Nat.{ℕ, _<_, _≤_}
 use mathlib.Core.Path.{_≡_, refl, sym, ap, subst}
-use mathlib.Core.Bool.{Bool, true, false, _&&_, not, cond}
+use mathlib.Core.Bool.{Bool, true, false, _&&_, _||_, not, cond}
 use mathlib.Core.Logic.{⊎-elim}
-use mathlib.Core.List.{List, [], _∷_, List·Memᴰ, List·Memᴰ·not-nil, List·Memᴰ·cases-cons}
+use mathlib.Core.List.{List, [], _∷_, List·Memᴰ, List·Memᴰ·head, List·Memᴰ·tail, List·Memᴰ·not-nil, List·Memᴰ·cases-cons}
 use native.Mathlib.Omega.{arith}
 use lib.Bits.{bitAnd}
 use lib.Dec.{T, T-not, not-T, eqb, ltb, eqb→eq, eqb-refl, ltb→lt, nltb→le}
 use Rattle.masks.specs.Mask.{width, bit}
+use Rattle.masks.proofs.Masks.{bit-zero}
 use Rattle.masks.proofs.Operators.{bit-and}
-use Rattle.masks.proofs.Tests.{and-i, and-l, and-r, decide, is-true, along, same-test}
+use Rattle.masks.proofs.Tests.{and-i, and-l, and-r, or-l, or-r, or-cases, decide, is-true, along, same-test}
 use Rattle.terms.specs.Lists.{any}
-use Rattle.terms.specs.Term.{term, has, literals, join, inside}
+use Rattle.terms.specs.Term.{term, empty, has, literals, join, inside}
 use Rattle.terms.specs.declared.Term.{Term}
 use Rattle.terms.proofs.Built.{joins, holdsShorter, joins-in, joins-out, conflict-free, joined-free, as-long, JoinOf}
 use Rattle.terms.proofs.Sorted.{any-i, any-e}
 use Rattle.terms.proofs.Terms.{Inside, inside-trans, join-l, join-r, join-least, term-ext, join-isTerm, join-within, inside-e}
 use Rattle.terms.proofs.Terms.{inside-i, IsTerm}
-use Rattle.lists.specs.Scans.{same, completes, narrowed, commonOf, shorterJoin}
+use Rattle.lists.specs.Scans.{same, completes, narrowed, commonOf, shorterFrom, shorterJoin}
 
 pub same-e : (t u : Term) → T (same t u) → t ≡ u
 unfolding same
@@ -98,27 +99,78 @@ module _ (N : ℕ) (wide : N ≤ width) where
     abbrev common : Term
     common = commonOf t t k
 
-    -- where a and some b of the list lack a literal of t, so do a and what all have in common
-    lacks : (a b : Term) → List·Memᴰ a l → List·Memᴰ b k → Inside a t → T (inside b t) → T (not (same (join a b) t))
-        → T (not (same (join common a) t))
-    lacks a b ma mb ia ib n =
-        not-T (same (join common a) t)
+    -- where a and b lack a literal of t, so do a and what is inside b
+    lacks : (c a b : Term) → List·Memᴰ a l → List·Memᴰ b k → Inside a t → T (inside b t) → T (not (same (join a b) t)) → Inside c b
+        → T (not (same (join c a) t))
+    lacks c a b ma mb ia ib n i =
+        not-T (same (join c a) t)
         (λ s.
-        let e : join common a ≡ t = same-e (join common a) t s in
         let jb : Inside b t = inside-e N wide b t (hk b mb) ib in
-        let each : Inside (join common a) (join a b) =
-        join-least common a (join a b) (inside-trans common b (join a b) (common-each t t k b mb ib) (join-r a b)) (join-l a b) in
-        let back : Inside t (join a b) = subst (λ (z : Term). Inside z (join a b)) e each in
+        let each : Inside (join c a) (join a b) =
+        join-least c a (join a b) (inside-trans c b (join a b) i (join-r a b)) (join-l a b) in
+        let back : Inside t (join a b) = subst (λ (z : Term). Inside z (join a b)) (same-e (join c a) t s) each in
         let j : IsTerm N (join a b) = join-within N a b t (hl a ma) (hk b mb) w ia jb in
         T-not (same (join a b) t) n (same-i (join a b) t (term-ext N (join a b) t j w (join-least a b t ia jb) back)))
+
+    -- a term of the list that is found, with some term of k
+    abbrev Found : List Term → Type 0
+    Found m = (a : Term) × List·Memᴰ a m × T (inside a t) × T (any (completes t a) k)
+
+    from-e : (c : Term) (m : List Term) → T (shorterFrom t k c m) → Found m
+    unfolding completes
+    from-e c [] s = absurd s
+    from-e c (d ∷ m) s = go (completes t c d) refl s (from-e common m) (from-e c m)
+      where
+        later : Found m → Found (d ∷ m)
+        later f = let (a, n, i, h) = f in (a, List·Memᴰ·tail n, i, h)
+
+        first : T (completes t c d) → T (inside d t)
+        first h = and-l (inside d t) (not (same (join c d) t)) h
+
+        go : (q : Bool) → completes t c d ≡ q
+            → T (cond q (any (completes t d) k || shorterFrom t k common m) (shorterFrom t k c m))
+            → (T (shorterFrom t k common m) → Found m) → (T (shorterFrom t k c m) → Found m) → Found (d ∷ m)
+        go true e h then else =
+            ⊎-elim (λ (p : T (any (completes t d) k)). (d, List·Memᴰ·head refl, first (along (sym e) tt), p))
+            (λ (p : T (shorterFrom t k common m)). later (then p))
+            (or-cases (any (completes t d) k) (shorterFrom t k common m) h)
+        go false e h then else = later (else h)
+
+    module _ (a b : Term) (ma : List·Memᴰ a l) (mb : List·Memᴰ b k) (ia : Inside a t) (ta : T (inside a t)) (tb : T (inside b t))
+        (n : T (not (same (join a b) t))) where
+      hits : T (any (completes t a) k)
+      unfolding completes
+      hits = any-i (completes t a) k b mb (and-i (inside b t) (not (same (join a b) t)) tb n)
+
+      opens : (c : Term) → Inside c b → completes t c a ≡ true
+      unfolding completes
+      opens c i =
+          is-true (completes t c a) (and-i (inside a t) (not (same (join c a) t)) ta (lacks c a b ma mb ia tb n i))
+
+      from-i : (c : Term) (m : List Term) → Inside c b → List·Memᴰ a m → T (shorterFrom t k c m)
+      from-i c [] i p = absurd (List·Memᴰ·not-nil p)
+      from-i c (d ∷ m) i p =
+          ⊎-elim here (λ (q : List·Memᴰ a m). go (completes t c d) (from-i common m (common-each t t k b mb tb) q) (from-i c m i q))
+          (List·Memᴰ·cases-cons p)
+        where
+          here : a ≡ d → T (shorterFrom t k c (d ∷ m))
+          here e =
+              subst (λ (z : Term). T (shorterFrom t k c (z ∷ m))) e
+              (along
+              (sym (ap (λ (q : Bool). cond q (any (completes t a) k || shorterFrom t k common m) (shorterFrom t k c m)) (opens c i)))
+              (or-l (any (completes t a) k) (shorterFrom t k common m) hits))
+
+          go : (q : Bool) → T (shorterFrom t k common m) → T (shorterFrom t k c m)
+              → T (cond q (any (completes t d) k || shorterFrom t k common m) (shorterFrom t k c m))
+          go true h g = or-r (any (completes t d) k) (shorterFrom t k common m) h
+          go false h g = g
 
     found : T (shorterJoin l k t) → T (holdsShorter (joins l k) t)
     unfolding shorterJoin completes
     found s =
-        let (a, ma, pa) = any-e (λ a. completes t common a && any (completes t a) k) l s in
-        let (b, mb, pb) = any-e (completes t a) k (and-r (completes t common a) (any (completes t a) k) pa) in
-        let ca : T (completes t common a) = and-l (completes t common a) (any (completes t a) k) pa in
-        let ia : Inside a t = inside-e N wide a t (hl a ma) (and-l (inside a t) (not (same (join common a) t)) ca) in
+        let (a, ma, ta, pa) = from-e empty l s in
+        let (b, mb, pb) = any-e (completes t a) k pa in
+        let ia : Inside a t = inside-e N wide a t (hl a ma) ta in
         let ib : Inside b t = inside-e N wide b t (hk b mb) (and-l (inside b t) (not (same (join a b) t)) pb) in
         let j : IsTerm N (join a b) = join-within N a b t (hl a ma) (hk b mb) w ia ib in
         let i : Inside (join a b) t = join-least a b t ia ib in
@@ -126,8 +178,13 @@ module _ (N : ℕ) (wide : N ≤ width) where
         (and-i (inside (join a b) t) (ltb (literals (join a b)) (literals t)) (inside-i N (join a b) t i)
         (fewer (join a b) t j w i (and-r (inside b t) (not (same (join a b) t)) pb)))
 
+    -- the term with no literal is inside every term
+    none : (b : Term) → Inside empty b
+    none b x true h = absurd (along (bit-zero x) h)
+    none b x false h = absurd (along (bit-zero x) h)
+
     finds : T (holdsShorter (joins l k) t) → T (shorterJoin l k t)
-    unfolding shorterJoin completes
+    unfolding shorterJoin
     finds s =
         let (u, m, p) = any-e test (joins l k) s in
         let o : JoinOf l k u = joins-out k l u m in
@@ -138,16 +195,12 @@ module _ (N : ℕ) (wide : N ≤ width) where
         let p′ : T (test (join a b)) = subst (λ (z : Term). T (test z)) (o .is) p in
         let i : Inside (join a b) t =
         inside-e N wide (join a b) t j (and-l (inside (join a b) t) (ltb (literals (join a b)) (literals t)) p′) in
-        let fits : (v : Term) → Inside v (join a b) → T (inside v t) = λ v q. inside-i N v t (inside-trans v (join a b) t q i) in
+        let fits : (v : Term) → Inside v (join a b) → Inside v t = λ v q. inside-trans v (join a b) t q i in
         let differs : T (not (same (join a b) t)) =
         fewer-not (join a b) t (and-r (inside (join a b) t) (ltb (literals (join a b)) (literals t)) p′) in
-        let ib : T (inside b t) = fits b (join-r a b) in
-        let ca : T (completes t common a) =
-        and-i (inside a t) (not (same (join common a) t)) (fits a (join-l a b))
-        (lacks a b (o .in-left) (o .in-right) (inside-trans a (join a b) t (join-l a b) i) ib differs) in
-        any-i (λ a. completes t common a && any (completes t a) k) l a (o .in-left)
-        (and-i (completes t common a) (any (completes t a) k) ca
-        (any-i (completes t a) k b (o .in-right) (and-i (inside b t) (not (same (join a b) t)) ib differs)))
+        let ia : Inside a t = fits a (join-l a b) in
+        from-i a b (o .in-left) (o .in-right) ia (inside-i N a t ia) (inside-i N b t (fits b (join-r a b))) differs empty l (none b)
+        (o .in-left)
 
     pub shorter-joins : shorterJoin l k t ≡ holdsShorter (joins l k) t
     shorter-joins = same-test (shorterJoin l k t) (holdsShorter (joins l k) t) found finds

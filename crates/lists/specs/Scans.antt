@@ -1,12 +1,12 @@
 -- Lists of terms as the code holds them, and the searches in them. No public contract rests on these.
 use Prim.Native.Nat.{ℕ}
-use mathlib.Core.Bool.{Bool, _&&_, not, cond}
+use mathlib.Core.Bool.{Bool, false, _&&_, _||_, not, cond}
 use mathlib.Core.List.{List, [], _∷_}
 use lib.Bits.{bitAnd}
 use lib.Dec.{eqb}
 use lib.ListN.{getD}
 use Rattle.terms.specs.Lists.{any}
-use Rattle.terms.specs.Term.{term, join, inside}
+use Rattle.terms.specs.Term.{term, empty, join, inside}
 use Rattle.terms.specs.declared.Term.{Term}
 
 -- the terms with these positive masks and these negative masks
@@ -36,7 +36,13 @@ abbrev pub commonOf : Term → Term → List Term → Term
 commonOf t c [] = c
 commonOf t c (b ∷ l) = commonOf t (narrowed t c b) l
 
--- some term of the one list and some of the other are inside t, and their join is not t; where the join with what all terms
--- of the other have in common is t already, there is no need to look at them
+-- the search for a term a of the list l and one of k, both inside t, whose join is not t. Where the join of a with c is t, the terms
+-- of k are not looked at; once all of them were, c is what those inside t have in common
+abbrev pub shorterFrom : Term → List Term → Term → List Term → Bool
+shorterFrom t k c [] = false
+shorterFrom t k c (a ∷ l) =
+    cond (completes t c a) (any (completes t a) k || shorterFrom t k (commonOf t t k) l) (shorterFrom t k c l)
+
+-- some term of the one list and some of the other are inside t, and their join is not t
 unfoldable pub shorterJoin : List Term → List Term → Term → Bool
-shorterJoin l k t = any (λ a. completes t (commonOf t t k) a && any (completes t a) k) l
+shorterJoin l k t = shorterFrom t k empty l

@@ -77,13 +77,16 @@ fn common(positives: &[u64], negatives: &[u64], t: Term) -> Term
     c
 }
 
-// Some term of the list a and some of the list b are inside t, and their join lacks a literal of t. The inner loop is entered only
-// where it finds one: the join of a with what all of b inside t have in common lacks a literal too.
+// Some term of the list a and some of the list b are inside t, and their join lacks a literal of t. Once the inner loop found none,
+// it is entered again only where it finds one: the join of a with what all of b inside t have in common lacks a literal too.
 pub fn holds_shorter(ap: &[u64], an: &[u64], bp: &[u64], bn: &[u64], t: Term) -> bool
     requires { ⌜ (length (now an) ≡ length (now ap)) × (length (now bn) ≡ length (now bp)) ⌝ }
     ensures { λ r. ⌜ r ≡ shorterJoin (termsOf (now (ap .entry)) (now (an .entry))) (termsOf (now (bp .entry)) (now (bn .entry))) t ⌝ }
 {
-    let shared = common(bp, bn, t);
+    let mut shared = Term {
+        positive: 0,
+        negative: 0,
+    };
     let mut found = false;
     let mut k = 0;
     'pairs: while k < ap.len() {
@@ -98,6 +101,7 @@ pub fn holds_shorter(ap: &[u64], an: &[u64], bp: &[u64], bn: &[u64], t: Term) ->
                 }
                 l += 1;
             }
+            shared = common(bp, bn, t);
         }
         k += 1;
     }

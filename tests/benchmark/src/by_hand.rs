@@ -100,7 +100,7 @@ fn common(terms: Terms, t: Term) -> Term {
 
 /// Some join of a term of a and a term of b is inside t and lacks a literal of t.
 fn holds_shorter(a: Terms, b: Terms, t: Term) -> bool {
-    let shared = common(b, t);
+    let mut shared = Term { positive: 0, negative: 0 };
     let mut found = false;
     'pairs: for u in a.iter() {
         if inside(u, t) && join(u, shared) != t {
@@ -110,6 +110,7 @@ fn holds_shorter(a: Terms, b: Terms, t: Term) -> bool {
                     break 'pairs;
                 }
             }
+            shared = common(b, t);
         }
     }
     found

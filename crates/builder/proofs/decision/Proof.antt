@@ -115,7 +115,8 @@ extend-all-requires-2 c κs =
     filled-fits (insertAll (extension s false) []) (slices s) (first d) (evens s) n (made d) in
     let same : length (first d false) ≡ length (first d true) =
     filled-even (insertAll (extension s false) []) (slices s) (first d) (evens s) n (made d) false in
-    let order = filled-rising (insertAll (extension s false) []) (slices s) (first d) (evens s) n (made d) (rises (extension s false) [] tt) in
+    let order =
+    filled-rising (insertAll (extension s false) []) (slices s) (first d) (evens s) n (made d) (rises (extension s false) [] tt) in
     ((s .pre .0 .0, fits, same, order), s .pre .1)
 
 enum-known-d : tie.Need-enum-known-d

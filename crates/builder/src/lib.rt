@@ -1,10 +1,10 @@
 // The terms of a decision and of a conjunction from the terms of their children, in order, each once.
 ghost use mathlib.Core.Path.{_≡_};
-ghost use mathlib.Core.Bool.{false};
+ghost use mathlib.Core.Bool.{true, false};
 ghost use mathlib.Core.List.{[], _∷_};
 ghost use Prim.Native.Nat.{_≤_, _<_};
 ghost use lib.ListN.{length};
-ghost use Rattle.terms.specs.Lists.{keep};
+ghost use Rattle.terms.specs.Lists.{keep, insert};
 ghost use Rattle.terms.specs.Order.{before};
 ghost use Rattle.terms.proofs.Sorted.{Rising};
 ghost use Rattle.lists.specs.Scans.{termsOf};
@@ -80,6 +80,19 @@ fn is_allowed(least: bool, ap: &[u64], an: &[u64], bp: &[u64], bn: &[u64], j: Te
     true
 }
 
+// Where only the least are asked for: the list in order has t. Where all joins are, none is made twice.
+fn is_known(least: bool, positives: &[u64], negatives: &[u64], t: Term) -> bool
+    requires { ⌜ length (now negatives) ≡ length (now positives) ⌝ }
+    requires { ⌜ Rising before (termsOf (now positives) (now negatives)) ⌝ }
+    ensures { λ r. ⌜ (r ≡ true → insert before t (termsOf (now (positives .entry)) (now (negatives .entry)))
+        ≡ termsOf (now (positives .entry)) (now (negatives .entry))) ⌝ }
+{
+    if least {
+        return insertion::is_present(positives, negatives, t);
+    }
+    false
+}
+
 // Adds the join of t and u, if they have no conflict and it is to be kept. One that is there is not looked at again.
 fn add_join(
     positives: &mut [u64],
@@ -106,7 +119,7 @@ fn add_join(
         return Kept::Count(count);
     }
     let j = terms::join(t, u);
-    if insertion::is_present(&positives[..count], &negatives[..count], j) {
+    if is_known(least, &positives[..count], &negatives[..count], j) {
         return Kept::Count(count);
     }
     if is_allowed(least, ap, an, bp, bn, j) {

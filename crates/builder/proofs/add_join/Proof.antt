@@ -84,26 +84,26 @@ returns c =
 join-requires : tie.Need-join-requires
 join-requires c κs = search needs
 
-slice-reshare-prefix-is-present : tie.Need-slice-reshare-prefix-is-present
-slice-reshare-prefix-is-present c = search needs
+slice-reshare-prefix-is-known : tie.Need-slice-reshare-prefix-is-known
+slice-reshare-prefix-is-known c = search needs
 
-slice-aggregate-is-present : tie.Need-slice-aggregate-is-present
-slice-aggregate-is-present c =
+slice-aggregate-is-known : tie.Need-slice-aggregate-is-known
+slice-aggregate-is-known c =
     let s = start (c .before .before .before) in
     sym (length-take-le (s .args .count) (s .args .positives .now) (s .pre .0 .0))
 
-slice-reshare-prefix-is-present-2 : tie.Need-slice-reshare-prefix-is-present-2
-slice-reshare-prefix-is-present-2 c =
+slice-reshare-prefix-is-known-2 : tie.Need-slice-reshare-prefix-is-known-2
+slice-reshare-prefix-is-known-2 c =
     let s = start (c .before .before .before) in
     omega (arith, s .pre .0 .0, s .pre .0 .1)
 
-slice-aggregate-is-present-2 : tie.Need-slice-aggregate-is-present-2
-slice-aggregate-is-present-2 c =
+slice-aggregate-is-known-2 : tie.Need-slice-aggregate-is-known-2
+slice-aggregate-is-known-2 c =
     let s = start (c .before .before .before .before) in
     sym (length-take-le (s .args .count) (s .args .negatives .now) (omega (arith, s .pre .0 .0, s .pre .0 .1)))
 
-is-present-requires : tie.Need-is-present-requires
-is-present-requires c κs =
+is-known-requires : tie.Need-is-known-requires
+is-known-requires c κs =
     let s = start (c .before .before .before .before) in (
       length-take-le (s .args .count) (s .args .negatives .now) (omega (arith, s .pre .0 .0, s .pre .0 .1))
           ∙ sym (length-take-le (s .args .count) (s .args .positives .now) (s .pre .0 .0)),
@@ -127,7 +127,7 @@ returns-2 c =
     (sym (joined (e .before) (kept s t) (e .if1 .left) refl))
     (there s t
     (subst (λ (z : Term). insert before z (held (slices s) (s .args .count)) ≡ held (slices s) (s .args .count)) (j .join .ensures)
-    (p .is-present .ensures (c .if2 .taken)))
+    (p .is-known .ensures (c .if2 .taken)))
     (kept s t))
 
 is-allowed-requires : tie.Need-is-allowed-requires
@@ -171,11 +171,11 @@ add-join-spec =
     conflict-requires
     returns
     join-requires
-    slice-reshare-prefix-is-present
-    slice-aggregate-is-present
-    slice-reshare-prefix-is-present-2
-    slice-aggregate-is-present-2
-    is-present-requires
+    slice-reshare-prefix-is-known
+    slice-aggregate-is-known
+    slice-reshare-prefix-is-known-2
+    slice-aggregate-is-known-2
+    is-known-requires
     same-length
     same-length-2
     returns-2

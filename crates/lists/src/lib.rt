@@ -4,7 +4,7 @@ ghost use Prim.Native.Nat.{_<_};
 ghost use lib.ListN.{length};
 ghost use Rattle.terms.specs.Lists.{any};
 ghost use Rattle.terms.specs.Term.{inside};
-ghost use Rattle.lists.specs.Scans.{termsOf, termAt, same, completes, narrowed, commonOf, shorterJoin};
+ghost use Rattle.lists.specs.Scans.{termsOf, termAt, same, completes, narrowed, shorterJoin};
 use terms::Term;
 
 // Term k of the list.
@@ -63,20 +63,6 @@ fn narrow(t: Term, c: Term, b: Term) -> Term
     c
 }
 
-// The literals of t that every term of the list inside t has.
-fn common(positives: &[u64], negatives: &[u64], t: Term) -> Term
-    requires { ⌜ length (now negatives) ≡ length (now positives) ⌝ }
-    ensures { λ r. ⌜ r ≡ commonOf t t (termsOf (now (positives .entry)) (now (negatives .entry))) ⌝ }
-{
-    let mut c = t;
-    let mut k = 0;
-    while k < positives.len() {
-        c = narrow(t, c, term_at(positives, negatives, k));
-        k += 1;
-    }
-    c
-}
-
 // Some term of the list a and some of the list b are inside t, and their join lacks a literal of t. Once the inner loop found none,
 // it is entered again only where it finds one: the join of a with what all of b inside t have in common lacks a literal too.
 pub fn holds_shorter(ap: &[u64], an: &[u64], bp: &[u64], bn: &[u64], t: Term) -> bool
@@ -92,6 +78,7 @@ pub fn holds_shorter(ap: &[u64], an: &[u64], bp: &[u64], bn: &[u64], t: Term) ->
     'pairs: while k < ap.len() {
         let a = term_at(ap, an, k);
         if is_short(t, shared, a) {
+            let mut next = t;
             let mut l = 0;
             while l < bp.len() {
                 let b = term_at(bp, bn, l);
@@ -99,9 +86,10 @@ pub fn holds_shorter(ap: &[u64], an: &[u64], bp: &[u64], bn: &[u64], t: Term) ->
                     found = true;
                     break 'pairs;
                 }
+                next = narrow(t, next, b);
                 l += 1;
             }
-            shared = common(bp, bn, t);
+            shared = next;
         }
         k += 1;
     }

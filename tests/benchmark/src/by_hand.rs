@@ -92,25 +92,23 @@ impl Part<'_> {
     }
 }
 
-/// The literals of t that every term of the list inside t has.
-fn common(terms: Terms, t: Term) -> Term {
-    let narrow = |c: Term, u: Term| Term { positive: c.positive & u.positive, negative: c.negative & u.negative };
-    terms.iter().filter(|&u| inside(u, t)).fold(t, narrow)
-}
-
 /// Some join of a term of a and a term of b is inside t and lacks a literal of t.
 fn holds_shorter(a: Terms, b: Terms, t: Term) -> bool {
     let mut shared = Term { positive: 0, negative: 0 };
     let mut found = false;
     'pairs: for u in a.iter() {
         if inside(u, t) && join(u, shared) != t {
+            let mut next = t;
             for v in b.iter() {
-                if inside(v, t) && join(u, v) != t {
-                    found = true;
-                    break 'pairs;
+                if inside(v, t) {
+                    if join(u, v) != t {
+                        found = true;
+                        break 'pairs;
+                    }
+                    next = Term { positive: next.positive & v.positive, negative: next.negative & v.negative };
                 }
             }
-            shared = common(b, t);
+            shared = next;
         }
     }
     found

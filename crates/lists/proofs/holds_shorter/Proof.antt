@@ -10,18 +10,19 @@ use lib.ListN.{length, drop}
 use borrow.Author.Needs.{needs}
 use Rattle.terms.specs.Lists.{any}
 use Rattle.terms.specs.declared.Term.{Term}
-use Rattle.lists.specs.Scans.{termsOf, termAt, completes, commonOf, shorterFrom, shorterJoin}
-use Rattle.lists.proofs.Parts.{any-miss, any-hit, any-end, from-next, from-end}
+use Rattle.lists.specs.Scans.{termsOf, termAt, completes, narrowed, commonOf, shorterFrom, shorterJoin}
+use Rattle.lists.proofs.Parts.{drop-terms, drop-end, any-miss, any-hit, any-end, from-next, from-end}
 use Rattle.lists.proofs.holds_shorter.Statement.{statement}
 use Rattle.lists.proofs.holds_shorter.Tie as tie
 
 abbrev Inv-loop : tie.InvT-loop
-Inv-loop ap an bp bn t found₀ k a l₀ found l =
+Inv-loop ap an bp bn t found₀ k a next₀ l₀ found next l =
     (l ≤ length bp) × (found ≡ false)
     × (any (completes t a) (drop l (termsOf bp bn)) ≡ any (completes t a) (termsOf bp bn))
+    × (commonOf t next (drop l (termsOf bp bn)) ≡ commonOf t t (termsOf bp bn))
 
 abbrev μ-loop : tie.MeasureT-loop
-μ-loop ap an bp bn t found₀ k a l₀ found l = length bp - l
+μ-loop ap an bp bn t found₀ k a next₀ l₀ found next l = length bp - l
 
 abbrev Inv-pairs : tie.InvT-pairs
 Inv-pairs ap an bp bn t shared₀ found₀ k₀ shared found k =
@@ -109,6 +110,9 @@ term-at-requires-2 c κs = search needs
 is-short-requires-2 : tie.Need-is-short-requires-2 Inv-loop μ-loop Inv-pairs μ-pairs
 is-short-requires-2 c κs = search needs
 
+narrow-requires : tie.Need-narrow-requires Inv-loop μ-loop Inv-pairs μ-pairs
+narrow-requires c κs = search needs
+
 add-l : tie.Need-add-l Inv-loop μ-loop Inv-pairs μ-pairs
 add-l c = search needs
 
@@ -117,19 +121,22 @@ loop-less c = search needs
 
 loop-again : tie.Need-loop-again Inv-loop μ-loop Inv-pairs μ-pairs
 loop-again c =
-    let i = c .before .before .before .before in
+    let d = c .before in
+    let i = d .before .before .before .before in
     let a = i .before .before .before in
     let s = start (a .before .before) in
-    let x = s .args in (
+    let x = s .args in
+    let rest : List Term = drop (i .loop .l + 1) (termsOf (x .bp .now) (x .bn .now)) in (
       omega arith,
       i .loop .inv .1,
       any-miss (x .bp .now) (x .bn .now) (s .pre .1) (i .loop .l) (completes (x .t) (a .term-at .result)) (omega arith)
-          (tested (c .before) false (c .if2 .left))
+          (tested (d .before) false (d .if2 .left))
           ∙ i .loop .inv .2,
+      ap (λ (z : Term). commonOf (x .t) z rest)
+          (c .narrow .ensures ∙ ap (narrowed (x .t) (i .loop .next)) (d .before .before .term-at2 .ensures))
+          ∙ sym (ap (commonOf (x .t) (i .loop .next)) (drop-terms (x .bp .now) (x .bn .now) (s .pre .1) (i .loop .l) (omega arith)))
+          ∙ i .loop .inv .3,
     )
-
-common-requires : tie.Need-common-requires Inv-loop μ-loop Inv-pairs μ-pairs
-common-requires c κs = search needs
 
 add-k : tie.Need-add-k Inv-loop μ-loop Inv-pairs μ-pairs
 add-k c = search needs
@@ -148,10 +155,12 @@ pairs-again c =
     ⊎-elim
     (λ w.
     let none : any (completes (x .t) a) (second p) ≡ false =
-    sym (w .1 .inv .2) ∙ any-end (x .bp .now) (x .bn .now) (s .pre .1) (w .1 .l) (completes (x .t) a) (w .2 .left) in (
+    sym (w .1 .inv .2) ∙ any-end (x .bp .now) (x .bn .now) (s .pre .1) (w .1 .l) (completes (x .t) a) (w .2 .left) in
+    let shared : w .1 .next ≡ commonOf (x .t) (x .t) (second p) =
+    sym (ap (commonOf (x .t) (w .1 .next)) (drop-end (x .bp .now) (x .bn .now) (s .pre .1) (w .1 .l) (w .2 .left))) ∙ w .1 .inv .3 in (
       omega arith,
-      w .5 ∙ w .1 .inv .1,
-      ap (λ (z : Term). shorterFrom (x .t) (second p) z rest) (w .4 ∙ w .3 .ensures)
+      w .4 ∙ w .1 .inv .1,
+      ap (λ (z : Term). shorterFrom (x .t) (second p) z rest) (w .3 ∙ shared)
           ∙ next i true false (w .0 .taken) (searched i false none),
     ))
     (λ w. (
@@ -198,10 +207,10 @@ holds-shorter-spec =
     loop-holds
     term-at-requires-2
     is-short-requires-2
+    narrow-requires
     add-l
     loop-less
     loop-again
-    common-requires
     add-k
     pairs-less
     pairs-again

@@ -20,7 +20,7 @@ use Rattle.terms.proofs.Implicants.{Implicant, Prime, least-same}
 use Rattle.terms.proofs.Listed.{before-irrefl, before-trans, before-total, primes-unique, Lists}
 use Rattle.terms.proofs.Sorted.{insert-out, insert-in, keep-out, keep-in, map-in}
 use Rattle.terms.proofs.Terms.{Inside, join-l, join-isTerm, IsTerm}
-use Rattle.lists.proofs.Shorter.{Terms, shorter-joins}
+use Rattle.lists.proofs.Least.{Terms, shorter-joins}
 use Rattle.builder.proofs.Adding.{rises}
 use Rattle.builder.specs.Made.{insertAll, allowed, madeWith, madeEach, madeJoins}
 

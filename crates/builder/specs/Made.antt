@@ -9,8 +9,13 @@ use Rattle.terms.specs.declared.Term.{Term}
 -- the terms of a list joined with one term, and the terms of one side extended
 pub use Rattle.terms.proofs.Built.{joinsWith, extended}
 use Rattle.lists.specs.Scans.{shorterJoin}
+use Rattle.lists.specs.declared.Shorter.{Shorter}
+use Rattle.lists.specs.declared.Shorter.the-variants.{None, At}
 use Rattle.insertion.specs.Filled.{held, Filled}
 use Rattle.insertion.specs.declared.Kept.{Kept}
+use Rattle.insertion.specs.declared.Kept.the-variants.{Count, Full}
+use Rattle.builder.specs.declared.Joined.{Joined}
+use Rattle.builder.specs.declared.Joined.the-variants.{Held, Over, Longer}
 
 -- the terms of l inserted into acc, one after the other
 abbrev pub insertAll : List Term → List Term → List Term
@@ -20,6 +25,17 @@ insertAll (t ∷ l) acc = insertAll l (insert before t acc)
 -- the list l was to be inserted into the terms that the first count entries of s hold
 abbrev pub Added : List Term → (Bool → List ℕ) → ℕ → (Bool → List ℕ) → Kept → Type 0
 Added l s count s′ k = Filled (insertAll l (held s count)) s s′ k
+
+-- what became of a join, as an answer of how many terms the list has: as many as before, where it is longer than another
+abbrev pub keptBy : ℕ → Joined → Kept
+keptBy count (Held c) = Count c
+keptBy count Over = Full
+keptBy count (Longer k l) = Count count
+
+-- no shorter join was found
+abbrev pub isNone : Shorter → Bool
+isNone None = true
+isNone (At k l) = false
 
 -- a joined term is kept, unless only the least are asked for and a shorter join is inside
 abbrev pub allowed : Bool → List Term → List Term → Term → Bool

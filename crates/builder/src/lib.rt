@@ -7,11 +7,20 @@ ghost use lib.ListN.{length};
 ghost use Rattle.terms.specs.Lists.{keep, insert};
 ghost use Rattle.terms.specs.Order.{before};
 ghost use Rattle.terms.proofs.Sorted.{Rising};
-ghost use Rattle.lists.specs.Scans.{termsOf};
+ghost use Rattle.lists.specs.Scans.{termsOf, termAt};
 ghost use Rattle.insertion.specs.Filled.{bySign, held};
-ghost use Rattle.builder.specs.Made.{joinsWith, extended, allowed, alone, madeWith, madeJoins, madeDecision, Added};
+ghost use Rattle.builder.specs.Made.{joinsWith, extended, isNone, allowed, alone, madeWith, madeJoins, madeDecision, Added, keptBy};
 use insertion::Kept;
+use lists::Shorter;
 use terms::Term;
+
+// What became of a join: how many terms the list holds then, that these are more than its slices have entries, or that it is longer
+// than the join of the terms at two places.
+enum Joined {
+    Held(usize),
+    Over,
+    Longer(usize, usize),
+}
 
 // Adds t with the literal of x of the given sign, unless a term of the list o is inside t.
 fn add_extended(
@@ -69,15 +78,41 @@ fn extend_all(
     Kept::Count(count)
 }
 
-// The joined term j is to be kept: a shorter join inside is looked for where only the least are asked for.
-fn is_allowed(least: bool, ap: &[u64], an: &[u64], bp: &[u64], bn: &[u64], j: Term) -> bool
+// Where only the least joins are asked for: the places of two terms whose join is shorter than j.
+fn find_shorter(least: bool, ap: &[u64], an: &[u64], bp: &[u64], bn: &[u64], j: Term) -> Shorter
     requires { ⌜ (length (now an) ≡ length (now ap)) × (length (now bn) ≡ length (now bp)) ⌝ }
-    ensures { λ r. ⌜ r ≡ allowed least (termsOf (now (ap .entry)) (now (an .entry))) (termsOf (now (bp .entry)) (now (bn .entry))) j ⌝ }
+    ensures { λ r. ⌜ isNone r
+        ≡ allowed least (termsOf (now (ap .entry)) (now (an .entry))) (termsOf (now (bp .entry)) (now (bn .entry))) j ⌝ }
 {
     if least {
-        return !lists::holds_shorter(ap, an, bp, bn, j);
+        return lists::find_shorter(ap, an, bp, bn, j);
     }
-    true
+    Shorter::None
+}
+
+// A pair of terms shows that j is not to be kept: those at the places first and second, or those at first and at.
+fn is_dropped(
+    least: bool,
+    ap: &[u64],
+    an: &[u64],
+    bp: &[u64],
+    bn: &[u64],
+    first: usize,
+    second: usize,
+    at: usize,
+    j: Term,
+) -> bool
+    requires { ⌜ (length (now an) ≡ length (now ap)) × (length (now bn) ≡ length (now bp)) ⌝ }
+    ensures { λ r. ⌜ (r ≡ true → allowed least (termsOf (now (ap .entry)) (now (an .entry))) (termsOf (now (bp .entry)) (now (bn .entry))) j
+        ≡ false) ⌝ }
+{
+    if least {
+        if lists::is_shorter_at(ap, an, bp, bn, first, second, j) {
+            return true;
+        }
+        return lists::is_shorter_at(ap, an, bp, bn, first, at, j);
+    }
+    false
 }
 
 // Where only the least are asked for: the list in order has t. Where all joins are, none is made twice.
@@ -93,7 +128,8 @@ fn is_known(least: bool, positives: &[u64], negatives: &[u64], t: Term) -> bool
     false
 }
 
-// Adds the join of t and u, if they have no conflict and it is to be kept. One that is there is not looked at again.
+// Adds the join of t and the term of b at a place, if they have no conflict and it is to be kept. The places first and second are of
+// a pair that showed an earlier join not to be least: it is tried before any search. A join that is in the list is not looked at again.
 fn add_join(
     positives: &mut [u64],
     negatives: &mut [u64],
@@ -104,28 +140,39 @@ fn add_join(
     bp: &[u64],
     bn: &[u64],
     t: Term,
-    u: Term,
-) -> Kept
+    at: usize,
+    first: usize,
+    second: usize,
+) -> Joined
     requires { ⌜ (count ≤ length (now positives)) × (length (now negatives) ≡ length (now positives))
         × Rising before (held (bySign (now positives) (now negatives)) count) ⌝ }
-    requires { ⌜ (length (now an) ≡ length (now ap)) × (length (now bn) ≡ length (now bp)) ⌝ }
+    requires { ⌜ (length (now an) ≡ length (now ap)) × (length (now bn) ≡ length (now bp)) × (at < length (now bp)) ⌝ }
     ensures { λ r. ⌜ Added
         (keep (allowed least (termsOf (now (ap .entry)) (now (an .entry))) (termsOf (now (bp .entry)) (now (bn .entry))))
-        (joinsWith t (u ∷ [])))
+        (joinsWith t (termAt (now (bp .entry)) (now (bn .entry)) at ∷ [])))
         (bySign (now (positives .entry)) (now (negatives .entry))) count
-        (bySign (now (positives .exit)) (now (negatives .exit))) r ⌝ }
+        (bySign (now (positives .exit)) (now (negatives .exit))) (keptBy count r) ⌝ }
 {
+    let u = lists::term_at(bp, bn, at);
     if terms::conflict(t, u) {
-        return Kept::Count(count);
+        return Joined::Held(count);
     }
     let j = terms::join(t, u);
+    if is_dropped(least, ap, an, bp, bn, first, second, at, j) {
+        return Joined::Held(count);
+    }
     if is_known(least, &positives[..count], &negatives[..count], j) {
-        return Kept::Count(count);
+        return Joined::Held(count);
     }
-    if is_allowed(least, ap, an, bp, bn, j) {
-        return insertion::insert(positives, negatives, count, j);
+    match find_shorter(least, ap, an, bp, bn, j) {
+        Shorter::At(p, q) => Joined::Longer(p, q),
+        Shorter::None => {
+            let Kept::Count(c) = insertion::insert(positives, negatives, count, j) else {
+                return Joined::Over;
+            };
+            Joined::Held(c)
+        }
     }
-    Kept::Count(count)
 }
 
 // Adds the joins of t with the terms of the list b that are to be kept.
@@ -150,14 +197,35 @@ fn join_each(
         (bySign (now (positives .exit)) (now (negatives .exit))) r ⌝ }
 {
     let mut count = start;
+    let mut first = 0;
+    let mut second = 0;
     let mut k = 0;
     while k < bp.len() {
-        let u = lists::term_at(bp, bn, k);
-        let Kept::Count(c) = add_join(positives, negatives, count, least, ap, an, bp, bn, t, u)
-        else {
-            return Kept::Full;
-        };
-        count = c;
+        match add_join(
+            positives,
+            negatives,
+            count,
+            least,
+            ap,
+            an,
+            bp,
+            bn,
+            t,
+            k,
+            first,
+            second,
+        ) {
+            Joined::Held(c) => {
+                count = c;
+            }
+            Joined::Over => {
+                return Kept::Full;
+            }
+            Joined::Longer(p, q) => {
+                first = p;
+                second = q;
+            }
+        }
         k += 1;
     }
     Kept::Count(count)

@@ -1,15 +1,15 @@
 -- Laws of lists of terms in two slices, and of searches in what is left of them.
 use Prim.Native.Nat.{ℕ, zero, suc, _+_, _<_, _≤_}
-use mathlib.Core.Path.{_≡_, refl, sym, ap, ap₂, _∙_}
-use mathlib.Core.Bool.{Bool, true, false, _||_, cond}
-use mathlib.Core.List.{List, [], _∷_}
+use mathlib.Core.Path.{_≡_, refl, sym, ap, _∙_}
+use mathlib.Core.Bool.{Bool, true, false, _||_}
+use mathlib.Core.List.{List, [], _∷_, List·Memᴰ, List·Memᴰ·head, List·Memᴰ·tail}
 use native.Mathlib.Nat.{not-suc-le-zero, le-of-suc-le-suc}
 use native.Mathlib.Numerals.{add-one}
 use native.Mathlib.Omega.{arith}
 use lib.ListN.{length, drop, drop-of-length-le}
 use Rattle.terms.specs.Lists.{any}
 use Rattle.terms.specs.declared.Term.{Term}
-use Rattle.lists.specs.Scans.{termsOf, termAt, completes, commonOf, shorterFrom}
+use Rattle.lists.specs.Scans.{termsOf, termAt}
 
 pub length-terms : (ps ns : List ℕ) → length ns ≡ length ps → length (termsOf ps ns) ≡ length ps
 length-terms [] ns e = refl
@@ -22,6 +22,13 @@ drop-suc [] ns k e l = absurd (not-suc-le-zero l)
 drop-suc (p ∷ ps) [] k e l = absurd (omega arith)
 drop-suc (p ∷ ps) (n ∷ ns) zero e l = refl
 drop-suc (p ∷ ps) (n ∷ ns) (suc k) e l = drop-suc ps ns k (omega arith) (le-of-suc-le-suc l)
+
+-- a term that is there is one of the list
+pub term-in : (ps ns : List ℕ) (k : ℕ) → length ns ≡ length ps → k < length ps → List·Memᴰ (termAt ps ns k) (termsOf ps ns)
+term-in [] ns k e l = absurd (not-suc-le-zero l)
+term-in (p ∷ ps) [] k e l = absurd (omega arith)
+term-in (p ∷ ps) (n ∷ ns) zero e l = List·Memᴰ·head refl
+term-in (p ∷ ps) (n ∷ ns) (suc k) e l = List·Memᴰ·tail (term-in ps ns k (omega arith) (le-of-suc-le-suc l))
 
 module _ (ps ns : List ℕ) (e : length ns ≡ length ps) (k : ℕ) where
   -- what is left at k is term k and what is left after it
@@ -44,17 +51,3 @@ module _ (ps ns : List ℕ) (e : length ns ≡ length ps) (k : ℕ) where
 
     pub any-end : length ps ≤ k → any p (drop k (termsOf ps ns)) ≡ false
     any-end l = ap (any p) (drop-end l)
-
-  -- a search for a shorter join, by what its tests say of term k
-  pub from-next : (t : Term) (l : List Term) (c : Term) (p q : Bool) → k < length ps → completes t c (termAt ps ns k) ≡ p
-      → any (completes t (termAt ps ns k)) l ≡ q
-      → shorterFrom t l c (drop k (termsOf ps ns))
-      ≡ cond p (q || shorterFrom t l (commonOf t t l) (drop (k + 1) (termsOf ps ns))) (shorterFrom t l c (drop (k + 1) (termsOf ps ns)))
-  from-next t l c p q h e d =
-      ap (shorterFrom t l c) (drop-terms h)
-      ∙ ap₂
-      (λ (x y : Bool).
-      cond x (y || shorterFrom t l (commonOf t t l) (drop (k + 1) (termsOf ps ns))) (shorterFrom t l c (drop (k + 1) (termsOf ps ns)))) e d
-
-  pub from-end : (t : Term) (l : List Term) (c : Term) → length ps ≤ k → shorterFrom t l c (drop k (termsOf ps ns)) ≡ false
-  from-end t l c h = ap (shorterFrom t l c) (drop-end h)

@@ -4,8 +4,14 @@ ghost use Prim.Native.Nat.{_<_};
 ghost use lib.ListN.{length};
 ghost use Rattle.terms.specs.Lists.{any};
 ghost use Rattle.terms.specs.Term.{inside};
-ghost use Rattle.lists.specs.Scans.{termsOf, termAt, same, completes, narrowed, shorterJoin};
+ghost use Rattle.lists.specs.Scans.{termsOf, termAt, short, shorterAt, narrowed, Found};
 use terms::Term;
+
+// The places of two terms whose join is shorter, or that there are none.
+pub enum Shorter {
+    None,
+    At(usize, usize),
+}
 
 // Term k of the list.
 pub fn term_at(positives: &[u64], negatives: &[u64], k: usize) -> Term
@@ -16,13 +22,6 @@ pub fn term_at(positives: &[u64], negatives: &[u64], k: usize) -> Term
         positive: positives[k],
         negative: negatives[k],
     }
-}
-
-// The masks are the same.
-pub fn is_same(t: Term, u: Term) -> bool
-    ensures { λ r. ⌜ r ≡ same t u ⌝ }
-{
-    (t.positive == u.positive) & (t.negative == u.negative)
 }
 
 // Some term of the list is inside t.
@@ -40,12 +39,34 @@ pub fn holds_one(positives: &[u64], negatives: &[u64], t: Term) -> bool
     false
 }
 
-// b is inside t, and its join with a lacks a literal of t.
+// b is inside t, and a literal of t is neither in a nor in b.
 fn is_short(t: Term, a: Term, b: Term) -> bool
-    ensures { λ r. ⌜ r ≡ completes t a b ⌝ }
+    ensures { λ r. ⌜ r ≡ short t a b ⌝ }
 {
     if terms::inside(b, t) {
-        return !is_same(terms::join(a, b), t);
+        return !terms::inside(t, terms::join(a, b));
+    }
+    false
+}
+
+// Term k of the list a and term l of the list b are there and inside t, and their join lacks a literal of t.
+pub fn is_shorter_at(
+    ap: &[u64],
+    an: &[u64],
+    bp: &[u64],
+    bn: &[u64],
+    k: usize,
+    l: usize,
+    t: Term,
+) -> bool
+    requires { ⌜ (length (now an) ≡ length (now ap)) × (length (now bn) ≡ length (now bp)) ⌝ }
+    ensures { λ r. ⌜ r ≡ shorterAt (now (ap .entry)) (now (an .entry)) (now (bp .entry)) (now (bn .entry)) k l t ⌝ }
+{
+    if (k < ap.len()) & (l < bp.len()) {
+        let a = term_at(ap, an, k);
+        if terms::inside(a, t) {
+            return is_short(t, a, term_at(bp, bn, l));
+        }
     }
     false
 }
@@ -63,17 +84,18 @@ fn narrow(t: Term, c: Term, b: Term) -> Term
     c
 }
 
-// Some term of the list a and some of the list b are inside t, and their join lacks a literal of t. Once the inner loop found none,
-// it is entered again only where it finds one: the join of a with what all of b inside t have in common lacks a literal too.
-pub fn holds_shorter(ap: &[u64], an: &[u64], bp: &[u64], bn: &[u64], t: Term) -> bool
+// The places of a term of the list a and of one of the list b that are inside t and whose join lacks a literal of t. Once the inner
+// loop found none, it is entered again only where it finds one: the join of a with what all of b inside t have in common lacks a
+// literal too.
+pub fn find_shorter(ap: &[u64], an: &[u64], bp: &[u64], bn: &[u64], t: Term) -> Shorter
     requires { ⌜ (length (now an) ≡ length (now ap)) × (length (now bn) ≡ length (now bp)) ⌝ }
-    ensures { λ r. ⌜ r ≡ shorterJoin (termsOf (now (ap .entry)) (now (an .entry))) (termsOf (now (bp .entry)) (now (bn .entry))) t ⌝ }
+    ensures { λ r. ⌜ Found (now (ap .entry)) (now (an .entry)) (now (bp .entry)) (now (bn .entry)) t r ⌝ }
 {
     let mut shared = Term {
         positive: 0,
         negative: 0,
     };
-    let mut found = false;
+    let mut found = Shorter::None;
     let mut k = 0;
     'pairs: while k < ap.len() {
         let a = term_at(ap, an, k);
@@ -83,7 +105,7 @@ pub fn holds_shorter(ap: &[u64], an: &[u64], bp: &[u64], bn: &[u64], t: Term) ->
             while l < bp.len() {
                 let b = term_at(bp, bn, l);
                 if is_short(t, a, b) {
-                    found = true;
+                    found = Shorter::At(k, l);
                     break 'pairs;
                 }
                 next = narrow(t, next, b);

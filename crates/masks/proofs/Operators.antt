@@ -136,6 +136,15 @@ unfolding subset
 subset-i a b h =
     every-i width (λ i. implied (bit a i) (bit b i)) (λ i l. implied-i (bit a i) (bit b i) (h i))
 
+-- a set inside another is inside each that holds that one
+pub subset-mono : (a b c : ℕ) → T (subset a b) → ((i : ℕ) → T (bit b i) → T (bit c i)) → T (subset a c)
+unfolding subset
+subset-mono a b c s h =
+    every-i width (λ i. implied (bit a i) (bit c i))
+    (λ i l.
+    implied-i (bit a i) (bit c i)
+    (λ p. h i (implied-e (bit a i) (bit b i) (every-e width (λ i. implied (bit a i) (bit b i)) s i l) p)))
+
 pub disjoint-at : (a b : ℕ) → T (disjoint a b) → (i : ℕ) → i < width → T (not (bit a i)) ⊎ T (not (bit b i))
 unfolding disjoint
 disjoint-at a b t i l = not-and (bit a i) (bit b i) (every-e width (λ i. not (bit a i && bit b i)) t i l)

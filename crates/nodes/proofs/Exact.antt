@@ -20,7 +20,7 @@ use Rattle.circuits.proofs.Nodes.{sides, allOf, node-fits, function-is, decisio
 use Rattle.circuits.proofs.Nodes.{all-apart}
 use Rattle.circuits.proofs.Rows.{nodeTerms, termsAt, terms-local, terms-primes}
 use Rattle.circuits.proofs.Tables.{Fits, children-below}
-use Rattle.lists.proofs.Shorter.{Terms}
+use Rattle.lists.proofs.Least.{Terms}
 use Rattle.builder.specs.Made.{insertAll, madeJoins, madeDecision}
 use Rattle.builder.proofs.Complete.{inserted-primes, all-joins, made-lists}
 use Rattle.nodes.specs.Part.{nodeMade, childAt, Ready}

@@ -11,7 +11,7 @@ use Rattle.masks.specs.Mask.{width, bit, put, subset}
 use Rattle.masks.specs.Numbers.{implied, every}
 use Rattle.masks.proofs.Masks.{bit-ext, bit-below, bit-zero, put-same, put-other, put-lt, put-false-le}
 use Rattle.masks.proofs.Numbers.{every-e, every-i}
-use Rattle.masks.proofs.Operators.{bit-or, subset-e, subset-i}
+use Rattle.masks.proofs.Operators.{bit-or, subset-e, subset-i, subset-mono}
 use Rattle.masks.proofs.Tests.{and-i, and-l, and-r, or-l, or-r, or-cases, implied-i, implied-e, is-true, is-false, along}
 use Rattle.masks.proofs.Tests.{same-test, same?}
 use Rattle.terms.specs.Term.{empty, mask, has, mentions, isTerm, agreesAt, agrees, without, extend, join, inside}
@@ -297,3 +297,13 @@ module _ (N : ℕ) where
   inside-i t u i =
       and-i (subset (t .positive) (u .positive)) (subset (t .negative) (u .negative))
       (subset-i (t .positive) (u .positive) (λ x. i x true)) (subset-i (t .negative) (u .negative) (λ x. i x false))
+
+-- a term inside another is inside each that holds that one
+pub inside-mono : (t u v : Term) → T (inside t u) → Inside u v → T (inside t v)
+unfolding inside
+inside-mono t u v h i =
+    and-i (subset (t .positive) (v .positive)) (subset (t .negative) (v .negative))
+    (subset-mono (t .positive) (u .positive) (v .positive)
+    (and-l (subset (t .positive) (u .positive)) (subset (t .negative) (u .negative)) h) (λ x. i x true))
+    (subset-mono (t .negative) (u .negative) (v .negative)
+    (and-r (subset (t .positive) (u .positive)) (subset (t .negative) (u .negative)) h) (λ x. i x false))

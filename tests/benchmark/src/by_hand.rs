@@ -14,6 +14,9 @@ impl Terms<'_> {
     }
 }
 
+/// The term with no literal.
+const EMPTY: Term = Term { positive: 0, negative: 0 };
+
 /// Each literal of t is one of u.
 fn inside(t: Term, u: Term) -> bool {
     t.positive & !u.positive == 0 && t.negative & !u.negative == 0
@@ -92,26 +95,32 @@ impl Part<'_> {
     }
 }
 
-/// Some join of a term of a and a term of b is inside t and lacks a literal of t.
-fn holds_shorter(a: Terms, b: Terms, t: Term) -> bool {
-    let mut shared = Term { positive: 0, negative: 0 };
-    let mut found = false;
-    'pairs: for u in a.iter() {
-        if inside(u, t) && join(u, shared) != t {
+/// b is inside t, and a literal of t is neither in a nor in b.
+fn is_short(t: Term, a: Term, b: Term) -> bool {
+    inside(b, t) && !inside(t, join(a, b))
+}
+
+/// The terms u of a and v of b are inside t, and their join lacks a literal of t.
+fn is_shorter(t: Term, u: Term, v: Term) -> bool {
+    inside(u, t) && is_short(t, u, v)
+}
+
+/// A term of a and a term of b inside t whose join lacks a literal of t.
+fn find_shorter(a: Terms, b: Terms, t: Term) -> Option<(Term, Term)> {
+    let mut shared = EMPTY;
+    for u in a.iter() {
+        if is_short(t, shared, u) {
             let mut next = t;
-            for v in b.iter() {
-                if inside(v, t) {
-                    if join(u, v) != t {
-                        found = true;
-                        break 'pairs;
-                    }
-                    next = Term { positive: next.positive & v.positive, negative: next.negative & v.negative };
+            for v in b.iter().filter(|&v| inside(v, t)) {
+                if !inside(t, join(u, v)) {
+                    return Some((u, v));
                 }
+                next = Term { positive: next.positive & v.positive, negative: next.negative & v.negative };
             }
             shared = next;
         }
     }
-    found
+    None
 }
 
 /// Some term of the list is inside t.
@@ -129,15 +138,21 @@ fn extend_all(part: &mut Part, x: u32, sign: bool, other: Terms, terms: Terms) -
     Ok(())
 }
 
-/// Adds the least joins of t with the terms of b; a term with one of b inside is the only one of its joins.
+/// Adds the least joins of t with the terms of b; a term with one of b inside is the only one of its joins. The pair that showed a
+/// join not to be least is tried first on the next.
 fn join_with(part: &mut Part, a: Terms, b: Terms, t: Term) -> Result<(), Full> {
     if holds_one(b, t) {
         return part.insert(t);
     }
+    let mut last = None;
     for u in b.iter().filter(|&u| !conflict(t, u)) {
         let joined = join(t, u);
-        if part.place(joined).is_some() && !holds_shorter(a, b, joined) {
-            part.insert(joined)?;
+        if last.is_some_and(|(p, q)| is_shorter(joined, p, q) || is_shorter(joined, p, u)) || part.place(joined).is_none() {
+            continue;
+        }
+        match find_shorter(a, b, joined) {
+            Some(pair) => last = Some(pair),
+            None => part.insert(joined)?,
         }
     }
     Ok(())
@@ -249,15 +264,14 @@ fn check(table: Table) -> Result<(), Refusal> {
 /// Makes the terms of one node in its own part, from its children's terms in the parts below.
 fn fill(part: &mut Part, node: [u32; 4], below: Terms, counts: &[u32], capacity: usize) -> Result<(), Full> {
     let [kind, x, a, b] = node;
-    let empty = Term { positive: 0, negative: 0 };
     let terms = |child: u32| {
         let start = child as usize * capacity;
         let end = start + counts[child as usize] as usize;
         Terms { positives: &below.positives[start..end], negatives: &below.negatives[start..end] }
     };
     match kind {
-        1 => part.insert(empty),
-        2 | 3 => part.insert(extend(empty, x, kind == 2)),
+        1 => part.insert(EMPTY),
+        2 | 3 => part.insert(extend(EMPTY, x, kind == 2)),
         4 => decision(part, x, terms(a), terms(b)),
         5 => conjunction(part, terms(a), terms(b)),
         _ => Ok(()),

@@ -218,18 +218,19 @@ pub fn late(k: usize, m: u32) -> Family {
     named(format!("late, at least {k} of {m}"), c)
 }
 
-/// A decision whose low side has p = C(m, k) terms and whose high side q = C(o, l) and a last one. The p joins with the last one
-/// are inside all p * q others, and each is found after those.
-pub fn last_join(k: usize, m: u32, l: usize, o: u32) -> Family {
+/// A decision one of whose sides has p = C(m, k) terms, and the other, the high one or the low one, q = C(o, l) and a last one. The p
+/// joins with the last one are inside all p * q others.
+pub fn last_join(k: usize, m: u32, l: usize, o: u32, last_high: bool) -> Family {
     let size = l as u32;
     let mut c = Circuit::new(2 + m + o + size);
     let u = range(2 + m + o, size);
     let (g, h) = (c.at_least(k, &range(2, m)), c.at_least(l, &range(2 + m, o)));
     let (all_u, v) = (every(&mut c, &u), c.positive(1));
-    let (low, high) = (c.conjunction(all_u, g), every_or(&mut c, &u, h));
-    let high = c.conjunction(v, high);
+    let (few, more) = (c.conjunction(all_u, g), every_or(&mut c, &u, h));
+    let more = c.conjunction(v, more);
+    let (low, high) = if last_high { (few, more) } else { (more, few) };
     c.decision(0, low, high);
-    named(format!("last join, at least {k} of {m} and {l} of {o}"), c)
+    named(format!("last join {}, at least {k} of {m} and {l} of {o}", if last_high { "high" } else { "low" }), c)
 }
 
 /// The families of the table.
@@ -277,7 +278,9 @@ pub fn worst() -> Vec<Family> {
         same_sides(&clauses, 8),
         late(5, 12),
         late(6, 13),
-        last_join(5, 11, 5, 12),
-        last_join(4, 14, 5, 14),
+        last_join(5, 11, 5, 12, true),
+        last_join(4, 14, 5, 14, true),
+        last_join(5, 11, 5, 12, false),
+        last_join(4, 14, 5, 14, false),
     ]
 }

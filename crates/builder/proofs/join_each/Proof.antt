@@ -1,8 +1,9 @@
 -- `builder::join_each` meets its contract. The loop's invariant: the slices hold count terms in their front, and inserting what is left
--- makes the whole list.
-use Prim.Native.Nat.{ℕ, _-_, _≤_}
+-- makes the whole list. The places of the pair that is tried first are any.
+use Prim.Native.Nat.{ℕ, _+_, _-_, _≤_}
 use mathlib.Core.Path.{_≡_, sym, ap, subst, _∙_}
 use mathlib.Core.Bool.{Bool, true, false}
+use mathlib.Core.Logic.{⊎-elim}
 use mathlib.Core.List.{List}
 use native.Mathlib.Omega.{arith}
 use lib.ListN.{length}
@@ -10,10 +11,11 @@ use borrow.Author.Needs.{needs}
 use Rattle.terms.specs.declared.Term.{Term}
 use Rattle.lists.specs.Scans.{termsOf, termAt}
 use Rattle.insertion.specs.Filled.{bySign}
-use Rattle.insertion.specs.declared.Kept.{Kept}
-use Rattle.insertion.specs.declared.Kept.the-variants.{Count, Full}
+use Rattle.insertion.specs.declared.Kept.the-variants.{Count}
 use Rattle.insertion.proofs.Parts.{Even, even}
-use Rattle.builder.specs.Made.{Added, allowed}
+use Rattle.builder.specs.Made.{Added, allowed, keptBy}
+use Rattle.builder.specs.declared.Joined.{Joined}
+use Rattle.builder.specs.declared.Joined.the-variants.{Held, Over, Longer}
 use Rattle.builder.proofs.Turns.{allMade, turn-start, turn-length, turn-fits, turn-end, turn-full, turn-next, joiningOne}
 use Rattle.builder.proofs.Turns.{Steps, Turn}
 use Rattle.builder.proofs.join_each.Statement.{statement}
@@ -23,12 +25,12 @@ abbrev steps : Bool → List Term → List Term → Term → Steps
 steps least a b t = joiningOne (allowed least a b) t
 
 abbrev Inv-loop : tie.InvT-loop
-Inv-loop ps₀ ns₀ start least ap an bp bn t count₀ k₀ ps ns count k =
+Inv-loop ps₀ ns₀ start least ap an bp bn t count₀ first₀ second₀ k₀ ps ns count first second k =
     let m : Steps = steps least (termsOf ap an) (termsOf bp bn) t in
     Turn m bp bn (allMade m bp bn (bySign ps₀ ns₀) start) (bySign ps₀ ns₀) (bySign ps ns) count k
 
 abbrev μ-loop : tie.MeasureT-loop
-μ-loop ps₀ ns₀ start least ap an bp bn t count₀ k₀ ps ns count k = length bp - k
+μ-loop ps₀ ns₀ start least ap an bp bn t count₀ first₀ second₀ k₀ ps ns count first second k = length bp - k
 
 abbrev Loop : Type 0
 Loop = tie.At-loop Inv-loop μ-loop
@@ -56,7 +58,7 @@ evens : (a : Loop) → Even (first a)
 evens a = even (start a .args .positives .now) (start a .args .negatives .now) (start a .pre .0 .1)
 
 abbrev turn : Called → Loop
-turn p = p .before .before .before .before .before
+turn p = p .before .before .before .before
 
 sizes : (a : Loop) (b : Bool) → length (now a b) ≡ length (first a b)
 sizes a =
@@ -66,17 +68,31 @@ sizes a =
     (a .loop .inv)
 
 -- what was inserted for term k
-told : (p : Called) (r : Kept) → p .add-join .result ≡ r
+told : (p : Called) (r : Joined) → p .add-join .result ≡ r
     → let a = turn p in
     let x = start a .args in
-    Added (making a .one (termAt (x .bp .now) (x .bn .now) (a .loop .k))) (now a) (a .loop .count) (then p) r
+    Added (making a .one (termAt (x .bp .now) (x .bn .now) (a .loop .k))) (now a) (a .loop .count) (then p) (keptBy (a .loop .count) r)
 told p r e =
     let a = turn p in
     let x = start a .args in
     subst
-    (λ (q : Kept). Added (making a .one (termAt (x .bp .now) (x .bn .now) (a .loop .k))) (now a) (a .loop .count) (then p) q) e
-    (subst (λ (t : Term). Added (making a .one t) (now a) (a .loop .count) (then p) (p .add-join .result))
-    (p .before .before .before .term-at .ensures) (p .add-join .ensures))
+    (λ (q : Joined).
+    Added (making a .one (termAt (x .bp .now) (x .bn .now) (a .loop .k))) (now a) (a .loop .count) (then p) (keptBy (a .loop .count) q)) e
+    (p .add-join .ensures)
+
+-- the turn after it, where the list has n terms then
+again : (p : Called) (r : Joined) (n : ℕ) → p .add-join .result ≡ r → keptBy (turn p .loop .count) r ≡ Count n
+    → let a = turn p in
+    let x = start a .args in
+    Turn (making a) (x .bp .now) (x .bn .now) (allMade (making a) (x .bp .now) (x .bn .now) (first a) (x .start)) (first a) (then p) n
+    (a .loop .k + 1)
+again p r n e h =
+    let a = turn p in
+    let x = start a .args in
+    turn-next (making a) (x .bp .now) (x .bn .now) (start a .pre .1 .1)
+    (allMade (making a) (x .bp .now) (x .bn .now) (first a) (x .start)) (first a) (now a) (evens a) (a .loop .count) (a .loop .k)
+    (a .loop .inv) (p .before .before .before .loop-test .taken) (then p) n
+    (subst (Added (making a .one (termAt (x .bp .now) (x .bn .now) (a .loop .k))) (now a) (a .loop .count) (then p)) h (told p r e))
 
 loop-holds : tie.Need-loop-holds Inv-loop μ-loop
 loop-holds c =
@@ -87,15 +103,10 @@ loop-holds c =
     (bySign (x .positives .now) (x .negatives .now))
     (even (x .positives .now) (x .negatives .now) (s .pre .0 .1)) (x .start) (s .pre .0 .0) (s .pre .0 .2)
 
-term-at-requires : tie.Need-term-at-requires Inv-loop μ-loop
-term-at-requires c κs =
-    let a = c .before in
-    let s = start a in
-    omega (arith, c .loop-test .taken, s .pre .1)
-
 add-join-requires : tie.Need-add-join-requires Inv-loop μ-loop
 add-join-requires c κs =
-    let a = c .before .before .before .before in
+    let w = c .before .before in
+    let a = w .before in
     let s = start a in
     let x = s .args in
     let fits : a .loop .count ≤ length (a .loop .positives) =
@@ -103,7 +114,7 @@ add-join-requires c κs =
     (allMade (making a) (x .bp .now) (x .bn .now) (first a) (x .start)) (first a) (now a) (evens a) (a .loop .count) (a .loop .k)
     (a .loop .inv) in
     let same : length (a .loop .negatives) ≡ length (a .loop .positives) = sizes a false ∙ evens a false ∙ sym (sizes a true) in
-    ((fits, same, a .loop .inv .rising), s .pre .1)
+    ((fits, same, a .loop .inv .rising), (s .pre .1 .0, s .pre .1 .1, w .loop-test .taken))
 
 enum-known-c : tie.Need-enum-known-c Inv-loop μ-loop
 enum-known-c c = search needs
@@ -124,27 +135,28 @@ returns c =
     let x = start a .args in
     turn-full (making a) (x .bp .now) (x .bn .now) (start a .pre .1 .1)
     (allMade (making a) (x .bp .now) (x .bn .now) (first a) (x .start)) (first a) (now a) (evens a) (a .loop .count) (a .loop .k)
-    (a .loop .inv) (p .before .before .before .before .loop-test .taken) (then p) (then p) (told p Full (c .enum-told .given .1))
+    (a .loop .inv) (p .before .before .before .loop-test .taken) (then p) (then p) (told p Over (c .enum-told .given .1))
+
+enum-known-p : tie.Need-enum-known-p Inv-loop μ-loop
+enum-known-p c = search needs
 
 add-k : tie.Need-add-k Inv-loop μ-loop
 add-k c =
-    let p = c .before .before .before .before .before .before .before in
-    omega (arith, p .before .before .before .before .loop-test .taken, start (turn p) .good .1 .1 .1 .1 .1 .1 .0 .0)
+    let p = c .before .before .before .before .before in
+    omega (arith, p .before .before .before .loop-test .taken, start (turn p) .good .1 .1 .1 .1 .1 .1 .0 .0)
 
 loop-less : tie.Need-loop-less Inv-loop μ-loop
 loop-less c =
-    let p = c .before .before .before .before .before .before .before in
-    omega (arith, p .before .before .before .before .loop-test .taken)
+    let p = c .before .before .before .before .before in
+    omega (arith, p .before .before .before .loop-test .taken)
 
 loop-again : tie.Need-loop-again Inv-loop μ-loop
 loop-again c =
-    let p = c .before .before .before .before .before .before .before in
-    let a = turn p in
-    let x = start a .args in
-    let n : ℕ = c .before .c .given .0 .0 in
-    turn-next (making a) (x .bp .now) (x .bn .now) (start a .pre .1 .1)
-    (allMade (making a) (x .bp .now) (x .bn .now) (first a) (x .start)) (first a) (now a) (evens a) (a .loop .count) (a .loop .k)
-    (a .loop .inv) (p .before .before .before .before .loop-test .taken) (then p) n (told p (Count n) (c .before .c .given .1))
+    let p = c .before .before .before .before .before in
+    let n : ℕ = c .match .count in
+    ⊎-elim (λ w. again p (Held (w .1 .given .0 .0)) n (w .1 .given .1) (ap Count (sym (w .3))))
+    (λ w. again p (Longer (w .1 .given .0 .0) (w .1 .given .0 .1 .0)) n (w .1 .given .1) (ap Count (sym (w .3))))
+    (c .match .came)
 
 same-length-3 : tie.Need-same-length-3 Inv-loop μ-loop
 same-length-3 c = sizes (c .before) true
@@ -167,13 +179,13 @@ join-each-spec =
     Inv-loop
     μ-loop
     loop-holds
-    term-at-requires
     add-join-requires
     enum-known-c
     enum-told
     same-length
     same-length-2
     returns
+    enum-known-p
     add-k
     loop-less
     loop-again

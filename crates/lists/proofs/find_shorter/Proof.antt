@@ -1,7 +1,7 @@
--- `lists::holds_shorter` meets its contract. Both loops' invariant: nothing is found yet, and the search in what is left finds
+-- `lists::find_shorter` meets its contract. Both loops' invariant: nothing is found yet, and the search in what is left finds
 -- what the whole search finds.
-use Prim.Native.Nat.{_+_, _-_, _≤_}
-use mathlib.Core.Path.{_≡_, refl, sym, ap, _∙_}
+use Prim.Native.Nat.{_+_, _-_, _≤_, zero-le}
+use mathlib.Core.Path.{_≡_, refl, sym, ap, subst, _∙_}
 use mathlib.Core.Bool.{Bool, true, false, _||_, cond}
 use mathlib.Core.Logic.{⊎-elim}
 use mathlib.Core.List.{List}
@@ -10,15 +10,17 @@ use lib.ListN.{length, drop}
 use borrow.Author.Needs.{needs}
 use Rattle.terms.specs.Lists.{any}
 use Rattle.terms.specs.declared.Term.{Term}
-use Rattle.lists.specs.Scans.{termsOf, termAt, completes, narrowed, commonOf, shorterFrom, shorterJoin}
-use Rattle.lists.proofs.Parts.{drop-terms, drop-end, any-miss, any-hit, any-end, from-next, from-end}
-use Rattle.lists.proofs.holds_shorter.Statement.{statement}
-use Rattle.lists.proofs.holds_shorter.Tie as tie
+use Rattle.lists.specs.Scans.{termsOf, termAt, short, shorterJoin, narrowed, Found}
+use Rattle.lists.specs.declared.Shorter.the-variants.{None}
+use Rattle.lists.proofs.Parts.{drop-terms, drop-end, any-miss, any-end}
+use Rattle.lists.proofs.Search.{commonOf, shorterFrom, search-is, search-next, search-end, shorter-at}
+use Rattle.lists.proofs.find_shorter.Statement.{statement}
+use Rattle.lists.proofs.find_shorter.Tie as tie
 
 abbrev Inv-loop : tie.InvT-loop
 Inv-loop ap an bp bn t found₀ k a next₀ l₀ found next l =
-    (l ≤ length bp) × (found ≡ false)
-    × (any (completes t a) (drop l (termsOf bp bn)) ≡ any (completes t a) (termsOf bp bn))
+    (l ≤ length bp) × (found ≡ None)
+    × (any (short t a) (drop l (termsOf bp bn)) ≡ any (short t a) (termsOf bp bn))
     × (commonOf t next (drop l (termsOf bp bn)) ≡ commonOf t t (termsOf bp bn))
 
 abbrev μ-loop : tie.MeasureT-loop
@@ -26,7 +28,7 @@ abbrev μ-loop : tie.MeasureT-loop
 
 abbrev Inv-pairs : tie.InvT-pairs
 Inv-pairs ap an bp bn t shared₀ found₀ k₀ shared found k =
-    (k ≤ length ap) × (found ≡ false)
+    (k ≤ length ap) × (found ≡ None)
     × (shorterFrom t (termsOf bp bn) shared (drop k (termsOf ap an)) ≡ shorterJoin (termsOf ap an) (termsOf bp bn) t)
 
 abbrev μ-pairs : tie.MeasureT-pairs
@@ -53,47 +55,48 @@ tested : (c : tie.After-is-short2 Inv-loop μ-loop Inv-pairs μ-pairs) (b : Bool
     → let i = c .before .before .before in
     let p = i .before .before .before in
     let x = start (p .before .before) .args in
-    completes (x .t) (p .term-at .result) (termAt (x .bp .now) (x .bn .now) (i .loop .l)) ≡ b
+    short (x .t) (p .term-at .result) (termAt (x .bp .now) (x .bn .now) (i .loop .l)) ≡ b
 tested c b e =
     let p = c .before .before .before .before .before .before in
     let x = start (p .before .before) .args in
-    sym (ap (completes (x .t) (p .term-at .result)) (c .before .term-at2 .ensures)) ∙ sym (c .is-short2 .ensures) ∙ e
+    sym (ap (short (x .t) (p .term-at .result)) (c .before .term-at2 .ensures)) ∙ sym (c .is-short2 .ensures) ∙ e
 
 -- what the outer test said of term k
 opened : (c : tie.After-is-short Inv-loop μ-loop Inv-pairs μ-pairs) (b : Bool) → c .is-short .result ≡ b
     → let p = c .before .before .before in
-    completes (start p .args .t) (p .pairs .shared) (here p) ≡ b
+    short (start p .args .t) (p .pairs .shared) (here p) ≡ b
 opened c b e =
     let p = c .before .before .before in
-    sym (ap (completes (start p .args .t) (p .pairs .shared)) (c .before .term-at .ensures)) ∙ sym (c .is-short .ensures) ∙ e
+    sym (ap (short (start p .args .t) (p .pairs .shared)) (c .before .term-at .ensures)) ∙ sym (c .is-short .ensures) ∙ e
 
 -- what the inner loop found for it
 searched : (c : tie.After-is-short Inv-loop μ-loop Inv-pairs μ-pairs) (d : Bool)
     → let p = c .before .before .before in
-    any (completes (start p .args .t) (c .before .term-at .result)) (second p) ≡ d
-    → any (completes (start p .args .t) (here p)) (second p) ≡ d
+    any (short (start p .args .t) (c .before .term-at .result)) (second p) ≡ d
+    → any (short (start p .args .t) (here p)) (second p) ≡ d
 searched c d e =
     let p = c .before .before .before in
-    sym (ap (λ (z : Term). any (completes (start p .args .t) z) (second p)) (c .before .term-at .ensures)) ∙ e
+    sym (ap (λ (z : Term). any (short (start p .args .t) z) (second p)) (c .before .term-at .ensures)) ∙ e
 
 -- the search from term k on, by both
 next : (c : tie.After-is-short Inv-loop μ-loop Inv-pairs μ-pairs) (b d : Bool) → c .is-short .result ≡ b
     → let p = c .before .before .before in
     let t : Term = start p .args .t in
-    any (completes t (here p)) (second p) ≡ d
+    any (short t (here p)) (second p) ≡ d
     → cond b (d || shorterFrom t (second p) (commonOf t t (second p)) (drop (p .pairs .k + 1) (first p)))
     (shorterFrom t (second p) (p .pairs .shared) (drop (p .pairs .k + 1) (first p)))
     ≡ shorterJoin (first p) (second p) t
 next c b d e h =
     let p = c .before .before .before in
     let x = start p .args in
-    sym (from-next (x .ap .now) (x .an .now) (start p .pre .0) (p .pairs .k) (x .t) (second p) (p .pairs .shared) b d (omega arith)
+    sym (search-next (x .ap .now) (x .an .now) (start p .pre .0) (p .pairs .k) (x .t) (second p) (p .pairs .shared) b d (omega arith)
     (opened c b e) h)
     ∙ p .pairs .inv .2
 
 pairs-holds : tie.Need-pairs-holds Inv-loop μ-loop Inv-pairs μ-pairs
-unfolding shorterJoin
-pairs-holds c = search needs
+pairs-holds c =
+    let x = c .before .before .before .before .args in
+    (zero-le, refl, search-is (x .t) (termsOf (x .bp .now) (x .bn .now)) (termsOf (x .ap .now) (x .an .now)))
 
 term-at-requires : tie.Need-term-at-requires Inv-loop μ-loop Inv-pairs μ-pairs
 term-at-requires c κs = search needs
@@ -129,7 +132,7 @@ loop-again c =
     let rest : List Term = drop (i .loop .l + 1) (termsOf (x .bp .now) (x .bn .now)) in (
       omega arith,
       i .loop .inv .1,
-      any-miss (x .bp .now) (x .bn .now) (s .pre .1) (i .loop .l) (completes (x .t) (a .term-at .result)) (omega arith)
+      any-miss (x .bp .now) (x .bn .now) (s .pre .1) (i .loop .l) (short (x .t) (a .term-at .result)) (omega arith)
           (tested (d .before) false (d .if2 .left))
           ∙ i .loop .inv .2,
       ap (λ (z : Term). commonOf (x .t) z rest)
@@ -154,8 +157,8 @@ pairs-again c =
     let a : Term = i .before .term-at .result in
     ⊎-elim
     (λ w.
-    let none : any (completes (x .t) a) (second p) ≡ false =
-    sym (w .1 .inv .2) ∙ any-end (x .bp .now) (x .bn .now) (s .pre .1) (w .1 .l) (completes (x .t) a) (w .2 .left) in
+    let none : any (short (x .t) a) (second p) ≡ false =
+    sym (w .1 .inv .2) ∙ any-end (x .bp .now) (x .bn .now) (s .pre .1) (w .1 .l) (short (x .t) a) (w .2 .left) in
     let shared : w .1 .next ≡ commonOf (x .t) (x .t) (second p) =
     sym (ap (commonOf (x .t) (w .1 .next)) (drop-end (x .bp .now) (x .bn .now) (s .pre .1) (w .1 .l) (w .2 .left))) ∙ w .1 .inv .3 in (
       omega arith,
@@ -167,7 +170,7 @@ pairs-again c =
       omega arith,
       w .2 ∙ p .pairs .inv .1,
       ap (λ (z : Term). shorterFrom (x .t) (second p) z rest) (w .1)
-          ∙ next i false (any (completes (x .t) (here p)) (second p)) (w .0 .left) refl,
+          ∙ next i false (any (short (x .t) (here p)) (second p)) (w .0 .left) refl,
     ))
     (c .if1 .came)
 
@@ -175,9 +178,9 @@ returns : tie.Need-returns Inv-loop μ-loop Inv-pairs μ-pairs
 returns c =
     let p = c .before in
     let x = start p .args in
-    p .pairs .inv .1
-    ∙ sym (from-end (x .ap .now) (x .an .now) (start p .pre .0) (p .pairs .k) (x .t) (second p) (p .pairs .shared) (omega arith))
-    ∙ p .pairs .inv .2
+    subst (Found (x .ap .now) (x .an .now) (x .bp .now) (x .bn .now) (x .t)) (sym (p .pairs .inv .1))
+    (sym (p .pairs .inv .2)
+    ∙ search-end (x .ap .now) (x .an .now) (start p .pre .0) (p .pairs .k) (x .t) (second p) (p .pairs .shared) (omega arith))
 
 returns-2 : tie.Need-returns-2 Inv-loop μ-loop Inv-pairs μ-pairs
 returns-2 c =
@@ -185,16 +188,13 @@ returns-2 c =
     let e = i .before in
     let a = e .before in
     let p = a .before .before .before in
-    let s = start p in
-    let x = s .args in
-    let some : any (completes (x .t) (a .before .term-at .result)) (second p) ≡ true =
-    sym (i .loop .inv .2)
-    ∙ any-hit (x .bp .now) (x .bn .now) (s .pre .1) (i .loop .l) (completes (x .t) (a .before .term-at .result)) (omega arith)
-    (tested (c .before) true (c .if2 .taken)) in
-    next a true true (e .if1 .taken) (searched a true some)
+    let x = start p .args in
+    shorter-at (x .ap .now) (x .an .now) (x .bp .now) (x .bn .now) (p .pairs .k) (i .loop .l) (x .t) (p .pairs .shared)
+    (a .before .term-at .result) (omega arith) (omega arith) (a .before .term-at .ensures)
+    (sym (a .is-short .ensures) ∙ e .if1 .taken) (tested (c .before) true (c .if2 .taken))
 
-pub holds-shorter-spec : {M : Type 1} → statement M
-holds-shorter-spec =
+pub find-shorter-spec : {M : Type 1} → statement M
+find-shorter-spec =
     tie.close
     (tie.spec
     Inv-loop

@@ -3,7 +3,7 @@ ghost use mathlib.Core.Path.{_≡_};
 ghost use mathlib.Core.Bool.{true, false};
 ghost use mathlib.Core.List.{[], _∷_};
 ghost use Prim.Native.Nat.{_≤_, _<_};
-ghost use lib.ListN.{length};
+ghost use lib.ListN.{length, getD};
 ghost use Rattle.terms.specs.Lists.{keep, insert};
 ghost use Rattle.terms.specs.Order.{before};
 ghost use Rattle.terms.proofs.Sorted.{Rising};
@@ -90,7 +90,7 @@ fn find_shorter(least: bool, ap: &[u64], an: &[u64], bp: &[u64], bn: &[u64], j: 
     Shorter::None
 }
 
-// A pair of terms shows that j is not to be kept: those at the places first and second, or those at first and at.
+// A pair of terms shows that j is not to be kept: those at the places first and second, or those at partner and at.
 fn is_dropped(
     least: bool,
     ap: &[u64],
@@ -99,6 +99,7 @@ fn is_dropped(
     bn: &[u64],
     first: usize,
     second: usize,
+    partner: usize,
     at: usize,
     j: Term,
 ) -> bool
@@ -110,7 +111,7 @@ fn is_dropped(
         if lists::is_shorter_at(ap, an, bp, bn, first, second, j) {
             return true;
         }
-        return lists::is_shorter_at(ap, an, bp, bn, first, at, j);
+        return lists::is_shorter_at(ap, an, bp, bn, partner, at, j);
     }
     false
 }
@@ -129,7 +130,8 @@ fn is_known(least: bool, positives: &[u64], negatives: &[u64], t: Term) -> bool
 }
 
 // Adds the join of t and the term of b at a place, if they have no conflict and it is to be kept. The places first and second are of
-// a pair that showed an earlier join not to be least: it is tried before any search. A join that is in the list is not looked at again.
+// a pair that showed the last such join not to be least, partner is that of a term of a that showed it of one with this term of b:
+// they are tried before any search. A join that is in the list is not looked at again.
 fn add_join(
     positives: &mut [u64],
     negatives: &mut [u64],
@@ -143,6 +145,7 @@ fn add_join(
     at: usize,
     first: usize,
     second: usize,
+    partner: usize,
 ) -> Joined
     requires { ⌜ (count ≤ length (now positives)) × (length (now negatives) ≡ length (now positives))
         × Rising before (held (bySign (now positives) (now negatives)) count) ⌝ }
@@ -158,7 +161,7 @@ fn add_join(
         return Joined::Held(count);
     }
     let j = terms::join(t, u);
-    if is_dropped(least, ap, an, bp, bn, first, second, at, j) {
+    if is_dropped(least, ap, an, bp, bn, first, second, partner, at, j) {
         return Joined::Held(count);
     }
     if is_known(least, &positives[..count], &negatives[..count], j) {
@@ -175,6 +178,25 @@ fn add_join(
     }
 }
 
+// The partner of a term of b: any place does, since it is tried.
+fn partner_of(partners: &[u16], at: usize) -> usize
+    ensures { λ r. ⌜ r ≡ getD (now (partners .entry)) at 0 ⌝ }
+{
+    if at < partners.len() {
+        return partners[at] as usize;
+    }
+    0
+}
+
+// Keeps k as the partner of a term of b, where there is room for it.
+fn pair_up(partners: &mut [u16], at: usize, k: usize) {
+    if at < partners.len() {
+        if k < 65536 {
+            partners[at] = k as u16;
+        }
+    }
+}
+
 // Adds the joins of t with the terms of the list b that are to be kept.
 fn join_each(
     positives: &mut [u64],
@@ -186,6 +208,7 @@ fn join_each(
     bp: &[u64],
     bn: &[u64],
     t: Term,
+    partners: &mut [u16],
 ) -> Kept
     requires { ⌜ (start ≤ length (now positives)) × (length (now negatives) ≡ length (now positives))
         × Rising before (held (bySign (now positives) (now negatives)) start) ⌝ }
@@ -201,6 +224,7 @@ fn join_each(
     let mut second = 0;
     let mut k = 0;
     while k < bp.len() {
+        let partner = partner_of(partners, k);
         match add_join(
             positives,
             negatives,
@@ -214,6 +238,7 @@ fn join_each(
             k,
             first,
             second,
+            partner,
         ) {
             Joined::Held(c) => {
                 count = c;
@@ -224,6 +249,7 @@ fn join_each(
             Joined::Longer(p, q) => {
                 first = p;
                 second = q;
+                pair_up(partners, k, p);
             }
         }
         k += 1;
@@ -253,6 +279,7 @@ fn join_with(
     bp: &[u64],
     bn: &[u64],
     t: Term,
+    partners: &mut [u16],
 ) -> Kept
     requires { ⌜ (count ≤ length (now positives)) × (length (now negatives) ≡ length (now positives))
         × Rising before (held (bySign (now positives) (now negatives)) count) ⌝ }
@@ -265,7 +292,18 @@ fn join_with(
     if is_alone(least, bp, bn, t) {
         return insertion::insert(positives, negatives, count, t);
     }
-    join_each(positives, negatives, count, least, ap, an, bp, bn, t)
+    join_each(
+        positives,
+        negatives,
+        count,
+        least,
+        ap,
+        an,
+        bp,
+        bn,
+        t,
+        partners,
+    )
 }
 
 // Adds the joins of the terms of a with the terms of b, or only the least of them.
@@ -286,11 +324,23 @@ fn join_all(
         (bySign (now (positives .entry)) (now (negatives .entry))) start
         (bySign (now (positives .exit)) (now (negatives .exit))) r ⌝ }
 {
+    let mut partners = [0u16; 4096];
     let mut count = start;
     let mut k = 0;
     while k < ap.len() {
         let t = lists::term_at(ap, an, k);
-        let Kept::Count(c) = join_with(positives, negatives, count, least, ap, an, bp, bn, t) else {
+        let Kept::Count(c) = join_with(
+            positives,
+            negatives,
+            count,
+            least,
+            ap,
+            an,
+            bp,
+            bn,
+            t,
+            &mut partners,
+        ) else {
             return Kept::Full;
         };
         count = c;

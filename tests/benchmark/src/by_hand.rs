@@ -9,6 +9,10 @@ struct Terms<'a> {
 }
 
 impl Terms<'_> {
+    fn get(&self, k: usize) -> Option<Term> {
+        Some(Term { positive: *self.positives.get(k)?, negative: *self.negatives.get(k)? })
+    }
+
     fn iter(&self) -> impl Iterator<Item = Term> + '_ {
         self.positives.iter().zip(self.negatives).map(|(&positive, &negative)| Term { positive, negative })
     }
@@ -100,20 +104,21 @@ fn is_short(t: Term, a: Term, b: Term) -> bool {
     inside(b, t) && !inside(t, join(a, b))
 }
 
-/// The terms u of a and v of b are inside t, and their join lacks a literal of t.
-fn is_shorter(t: Term, u: Term, v: Term) -> bool {
-    inside(u, t) && is_short(t, u, v)
+/// The terms of a and b at two places are inside t, and their join lacks a literal of t.
+fn is_shorter_at(a: Terms, b: Terms, k: usize, l: usize, t: Term) -> bool {
+    let pair = a.get(k).zip(b.get(l));
+    pair.is_some_and(|(u, v)| inside(u, t) && is_short(t, u, v))
 }
 
-/// A term of a and a term of b inside t whose join lacks a literal of t.
-fn find_shorter(a: Terms, b: Terms, t: Term) -> Option<(Term, Term)> {
+/// The places of a term of a and a term of b inside t whose join lacks a literal of t.
+fn find_shorter(a: Terms, b: Terms, t: Term) -> Option<(usize, usize)> {
     let mut shared = EMPTY;
-    for u in a.iter() {
+    for (k, u) in a.iter().enumerate() {
         if is_short(t, shared, u) {
             let mut next = t;
-            for v in b.iter().filter(|&v| inside(v, t)) {
+            for (l, v) in b.iter().enumerate().filter(|&(_, v)| inside(v, t)) {
                 if !inside(t, join(u, v)) {
-                    return Some((u, v));
+                    return Some((k, l));
                 }
                 next = Term { positive: next.positive & v.positive, negative: next.negative & v.negative };
             }
@@ -138,20 +143,28 @@ fn extend_all(part: &mut Part, x: u32, sign: bool, other: Terms, terms: Terms) -
     Ok(())
 }
 
-/// Adds the least joins of t with the terms of b; a term with one of b inside is the only one of its joins. The pair that showed a
-/// join not to be least is tried first on the next.
-fn join_with(part: &mut Part, a: Terms, b: Terms, t: Term) -> Result<(), Full> {
+/// For each term of b the place of a term of a that showed a join with it not to be least.
+type Partners = [u16; 4096];
+
+/// Adds the least joins of t with the terms of b; a term with one of b inside is the only one of its joins. The pair that showed the
+/// last join not to be least is tried first, then the partner of the term of b.
+fn join_with(part: &mut Part, partners: &mut Partners, a: Terms, b: Terms, t: Term) -> Result<(), Full> {
     if holds_one(b, t) {
         return part.insert(t);
     }
-    let mut last = None;
-    for u in b.iter().filter(|&u| !conflict(t, u)) {
+    let (mut first, mut second) = (0, 0);
+    for (at, u) in b.iter().enumerate().filter(|&(_, u)| !conflict(t, u)) {
         let joined = join(t, u);
-        if last.is_some_and(|(p, q)| is_shorter(joined, p, q) || is_shorter(joined, p, u)) || part.place(joined).is_none() {
+        let partner = partners[at] as usize;
+        let tried = is_shorter_at(a, b, first, second, joined) || is_shorter_at(a, b, partner, at, joined);
+        if tried || part.place(joined).is_none() {
             continue;
         }
         match find_shorter(a, b, joined) {
-            Some(pair) => last = Some(pair),
+            Some(pair) => {
+                (first, second) = pair;
+                partners[at] = first as u16;
+            }
             None => part.insert(joined)?,
         }
     }
@@ -161,8 +174,9 @@ fn join_with(part: &mut Part, a: Terms, b: Terms, t: Term) -> Result<(), Full> {
 fn decision(part: &mut Part, x: u32, a: Terms, b: Terms) -> Result<(), Full> {
     extend_all(part, x, false, b, a)?;
     extend_all(part, x, true, a, b)?;
+    let mut partners = [0; 4096];
     for t in a.iter() {
-        join_with(part, a, b, t)?;
+        join_with(part, &mut partners, a, b, t)?;
     }
     Ok(())
 }

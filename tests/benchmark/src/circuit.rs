@@ -88,4 +88,17 @@ impl Circuit {
         let high = self.at_least(k - 1, rest);
         self.decision(x, low, high)
     }
+    /// At least k of the variables are true, or the node is; the variables are not in the node.
+    pub fn at_least_or(&mut self, k: usize, variables: &[u32], node: u32) -> u32 {
+        if k == 0 {
+            return self.constant(true);
+        }
+        if k > variables.len() {
+            return node;
+        }
+        let (x, rest) = (variables[0], &variables[1..]);
+        let low = self.at_least_or(k, rest, node);
+        let high = self.at_least_or(k - 1, rest, node);
+        self.decision(x, low, high)
+    }
 }

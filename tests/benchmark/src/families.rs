@@ -233,6 +233,16 @@ pub fn last_join(k: usize, m: u32, l: usize, o: u32, last_high: bool) -> Family 
     named(format!("last join {}, at least {k} of {m} and {l} of {o}", if last_high { "high" } else { "low" }), c)
 }
 
+/// A decision one of whose sides has the p = C(m, k) terms of the other and p more: none of the joins with these is least.
+pub fn more_on_one_side(k: usize, m: u32, more_high: bool) -> Family {
+    let mut c = Circuit::new(1 + 2 * m);
+    let side = c.at_least(k, &range(1, m));
+    let more = c.at_least_or(k, &range(1 + m, m), side);
+    let (low, high) = if more_high { (side, more) } else { (more, side) };
+    c.decision(0, low, high);
+    named(format!("more {}, at least {k} of {m}", if more_high { "high" } else { "low" }), c)
+}
+
 /// The families of the table.
 pub fn usual() -> Vec<Family> {
     vec![
@@ -282,5 +292,9 @@ pub fn worst() -> Vec<Family> {
         last_join(4, 14, 5, 14, true),
         last_join(5, 11, 5, 12, false),
         last_join(4, 14, 5, 14, false),
+        more_on_one_side(5, 11, false),
+        more_on_one_side(5, 11, true),
+        more_on_one_side(6, 13, false),
+        more_on_one_side(6, 13, true),
     ]
 }

@@ -38,7 +38,7 @@ returns-2 : tie.Need-returns-2
 returns-2 c e =
     let a = c .before .before in
     let s = start (a .before) in
-    shown s (s .args .first) (s .args .at) (a .before .if1 .taken) (sym (c .is-shorter-at2 .ensures) ∙ e)
+    shown s (s .args .partner) (s .args .at) (a .before .if1 .taken) (sym (c .is-shorter-at2 .ensures) ∙ e)
 
 returns-3 : tie.Need-returns-3
 returns-3 c e = absurd (true≢false (sym e))

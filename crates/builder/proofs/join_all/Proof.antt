@@ -5,7 +5,7 @@ use mathlib.Core.Path.{_≡_, sym, ap, subst, _∙_}
 use mathlib.Core.Bool.{Bool, true, false}
 use mathlib.Core.List.{List}
 use native.Mathlib.Omega.{arith}
-use lib.ListN.{length}
+use lib.ListN.{length, length-replicate}
 use borrow.Author.Needs.{needs}
 use Rattle.terms.specs.declared.Term.{Term}
 use Rattle.lists.specs.Scans.{termsOf, termAt}
@@ -23,12 +23,12 @@ abbrev steps : Bool → List Term → List Term → Steps
 steps least a b = joiningAll least a b
 
 abbrev Inv-loop : tie.InvT-loop
-Inv-loop ps₀ ns₀ start least ap an bp bn count₀ k₀ ps ns count k =
+Inv-loop ps₀ ns₀ start least ap an bp bn partners₀ count₀ k₀ ps ns partners count k =
     let m : Steps = steps least (termsOf ap an) (termsOf bp bn) in
-    Turn m ap an (allMade m ap an (bySign ps₀ ns₀) start) (bySign ps₀ ns₀) (bySign ps ns) count k
+    Turn m ap an (allMade m ap an (bySign ps₀ ns₀) start) (bySign ps₀ ns₀) (bySign ps ns) count k × (length partners ≡ 4096)
 
 abbrev μ-loop : tie.MeasureT-loop
-μ-loop ps₀ ns₀ start least ap an bp bn count₀ k₀ ps ns count k = length ap - k
+μ-loop ps₀ ns₀ start least ap an bp bn partners₀ count₀ k₀ ps ns partners count k = length ap - k
 
 abbrev Loop : Type 0
 Loop = tie.At-loop Inv-loop μ-loop
@@ -56,14 +56,14 @@ evens : (a : Loop) → Even (first a)
 evens a = even (start a .args .positives .now) (start a .args .negatives .now) (start a .pre .0 .1)
 
 abbrev turn : Called → Loop
-turn p = p .before .before .before .before .before
+turn p = p .before .before .before .before .before .before
 
 sizes : (a : Loop) (b : Bool) → length (now a b) ≡ length (first a b)
 sizes a =
     let x = start a .args in
     turn-length (making a) (x .ap .now) (x .an .now) (start a .pre .1 .0)
     (allMade (making a) (x .ap .now) (x .an .now) (first a) (x .start)) (first a) (now a) (evens a) (a .loop .count) (a .loop .k)
-    (a .loop .inv)
+    (a .loop .inv .0)
 
 -- what was inserted for term k
 told : (p : Called) (r : Kept) → p .join-with .result ≡ r
@@ -76,16 +76,18 @@ told p r e =
     subst
     (λ (q : Kept). Added (making a .one (termAt (x .ap .now) (x .an .now) (a .loop .k))) (now a) (a .loop .count) (then p) q) e
     (subst (λ (t : Term). Added (making a .one t) (now a) (a .loop .count) (then p) (p .join-with .result))
-    (p .before .before .before .term-at .ensures) (p .join-with .ensures))
+    (p .before .before .before .before .term-at .ensures) (p .join-with .ensures))
 
 loop-holds : tie.Need-loop-holds Inv-loop μ-loop
 loop-holds c =
     let s = c .before .before .before .before .before .before in
-    let x = s .args in
-    turn-start (steps (x .least) (termsOf (x .ap .now) (x .an .now)) (termsOf (x .bp .now) (x .bn .now)))
-    (x .ap .now) (x .an .now)
-    (bySign (x .positives .now) (x .negatives .now))
-    (even (x .positives .now) (x .negatives .now) (s .pre .0 .1)) (x .start) (s .pre .0 .0) (s .pre .0 .2)
+    let x = s .args in (
+      turn-start (steps (x .least) (termsOf (x .ap .now) (x .an .now)) (termsOf (x .bp .now) (x .bn .now)))
+          (x .ap .now) (x .an .now)
+          (bySign (x .positives .now) (x .negatives .now))
+          (even (x .positives .now) (x .negatives .now) (s .pre .0 .1)) (x .start) (s .pre .0 .0) (s .pre .0 .2),
+      length-replicate {A = ℕ} 4096 0,
+    )
 
 term-at-requires : tie.Need-term-at-requires Inv-loop μ-loop
 term-at-requires c κs =
@@ -93,17 +95,20 @@ term-at-requires c κs =
     let s = start a in
     omega (arith, c .loop-test .taken, s .pre .1)
 
+slice-aggregate-join-with : tie.Need-slice-aggregate-join-with Inv-loop μ-loop
+slice-aggregate-join-with c = sym (c .before .before .before .before .before .loop .inv .1)
+
 join-with-requires : tie.Need-join-with-requires Inv-loop μ-loop
 join-with-requires c κs =
-    let a = c .before .before .before .before in
+    let a = c .before .before .before .before .before in
     let s = start a in
     let x = s .args in
     let fits : a .loop .count ≤ length (a .loop .positives) =
     turn-fits (making a) (x .ap .now) (x .an .now) (s .pre .1 .0)
     (allMade (making a) (x .ap .now) (x .an .now) (first a) (x .start)) (first a) (now a) (evens a) (a .loop .count) (a .loop .k)
-    (a .loop .inv) in
+    (a .loop .inv .0) in
     let same : length (a .loop .negatives) ≡ length (a .loop .positives) = sizes a false ∙ evens a false ∙ sym (sizes a true) in
-    ((fits, same, a .loop .inv .rising), s .pre .1)
+    ((fits, same, a .loop .inv .0 .rising), s .pre .1)
 
 enum-known-c : tie.Need-enum-known-c Inv-loop μ-loop
 enum-known-c c = search needs
@@ -112,39 +117,41 @@ enum-told : tie.Need-enum-told Inv-loop μ-loop
 enum-told c = search needs
 
 same-length : tie.Need-same-length Inv-loop μ-loop
-same-length c = let p = c .before .before .before .before .before .before in p .join-with .kept .0 ∙ sizes (turn p) true
+same-length c = let p = c .before .before .before .before .before .before .before in p .join-with .kept .0 ∙ sizes (turn p) true
 
 same-length-2 : tie.Need-same-length-2 Inv-loop μ-loop
-same-length-2 c = let p = c .before .before .before .before .before .before in p .join-with .kept .1 .0 ∙ sizes (turn p) false
+same-length-2 c = let p = c .before .before .before .before .before .before .before in p .join-with .kept .1 .0 ∙ sizes (turn p) false
 
 returns : tie.Need-returns Inv-loop μ-loop
 returns c =
-    let p = c .before .before .before .before .before .before in
+    let p = c .before .before .before .before .before .before .before in
     let a = turn p in
     let x = start a .args in
     turn-full (making a) (x .ap .now) (x .an .now) (start a .pre .1 .0)
     (allMade (making a) (x .ap .now) (x .an .now) (first a) (x .start)) (first a) (now a) (evens a) (a .loop .count) (a .loop .k)
-    (a .loop .inv) (p .before .before .before .before .loop-test .taken) (then p) (then p) (told p Full (c .enum-told .given .1))
+    (a .loop .inv .0) (p .before .before .before .before .before .loop-test .taken) (then p) (then p) (told p Full (c .enum-told .given .1))
 
 add-k : tie.Need-add-k Inv-loop μ-loop
 add-k c =
-    let p = c .before .before .before .before .before .before .before in
-    omega (arith, p .before .before .before .before .loop-test .taken, start (turn p) .good .1 .1 .1 .1 .0 .0)
+    let p = c .before .before .before .before .before .before .before .before in
+    omega (arith, p .before .before .before .before .before .loop-test .taken, start (turn p) .good .1 .1 .1 .1 .0 .0)
 
 loop-less : tie.Need-loop-less Inv-loop μ-loop
 loop-less c =
-    let p = c .before .before .before .before .before .before .before in
-    omega (arith, p .before .before .before .before .loop-test .taken)
+    let p = c .before .before .before .before .before .before .before .before in
+    omega (arith, p .before .before .before .before .before .loop-test .taken)
 
 loop-again : tie.Need-loop-again Inv-loop μ-loop
 loop-again c =
-    let p = c .before .before .before .before .before .before .before in
+    let p = c .before .before .before .before .before .before .before .before in
     let a = turn p in
     let x = start a .args in
-    let n : ℕ = c .before .c .given .0 .0 in
-    turn-next (making a) (x .ap .now) (x .an .now) (start a .pre .1 .0)
-    (allMade (making a) (x .ap .now) (x .an .now) (first a) (x .start)) (first a) (now a) (evens a) (a .loop .count) (a .loop .k)
-    (a .loop .inv) (p .before .before .before .before .loop-test .taken) (then p) n (told p (Count n) (c .before .c .given .1))
+    let n : ℕ = c .before .c .given .0 .0 in (
+      turn-next (making a) (x .ap .now) (x .an .now) (start a .pre .1 .0)
+          (allMade (making a) (x .ap .now) (x .an .now) (first a) (x .start)) (first a) (now a) (evens a) (a .loop .count) (a .loop .k)
+          (a .loop .inv .0) (p .before .before .before .before .before .loop-test .taken) (then p) n (told p (Count n) (c .before .c .given .1)),
+      p .join-with .kept .1 .1 .1 .1 .1 .1 .1 .1 .1 .0 ∙ a .loop .inv .1,
+    )
 
 same-length-3 : tie.Need-same-length-3 Inv-loop μ-loop
 same-length-3 c = sizes (c .before) true
@@ -158,7 +165,7 @@ returns-2 c =
     let x = start a .args in
     turn-end (making a) (x .ap .now) (x .an .now) (start a .pre .1 .0)
     (allMade (making a) (x .ap .now) (x .an .now) (first a) (x .start)) (first a) (now a) (evens a) (a .loop .count) (a .loop .k)
-    (a .loop .inv) (c .loop-test .left)
+    (a .loop .inv .0) (c .loop-test .left)
 
 pub join-all-spec : {M : Type 1} → statement M
 join-all-spec =
@@ -168,6 +175,7 @@ join-all-spec =
     μ-loop
     loop-holds
     term-at-requires
+    slice-aggregate-join-with
     join-with-requires
     enum-known-c
     enum-told

@@ -1,7 +1,7 @@
 -- `builder::join_each` meets its contract. The loop's invariant: the slices hold count terms in their front, and inserting what is left
--- makes the whole list. The places of the pair that is tried first are any.
+-- makes the whole list. The places of the pairs that are tried first are any.
 use Prim.Native.Nat.{ℕ, _+_, _-_, _≤_}
-use mathlib.Core.Path.{_≡_, sym, ap, subst, _∙_}
+use mathlib.Core.Path.{_≡_, refl, sym, ap, subst, _∙_}
 use mathlib.Core.Bool.{Bool, true, false}
 use mathlib.Core.Logic.{⊎-elim}
 use mathlib.Core.List.{List}
@@ -25,12 +25,13 @@ abbrev steps : Bool → List Term → List Term → Term → Steps
 steps least a b t = joiningOne (allowed least a b) t
 
 abbrev Inv-loop : tie.InvT-loop
-Inv-loop ps₀ ns₀ start least ap an bp bn t count₀ first₀ second₀ k₀ ps ns count first second k =
+Inv-loop ps₀ ns₀ start least ap an bp bn t partners₀ count₀ first₀ second₀ k₀ ps ns partners count first second k =
     let m : Steps = steps least (termsOf ap an) (termsOf bp bn) t in
     Turn m bp bn (allMade m bp bn (bySign ps₀ ns₀) start) (bySign ps₀ ns₀) (bySign ps ns) count k
+    × (length partners ≡ length partners₀)
 
 abbrev μ-loop : tie.MeasureT-loop
-μ-loop ps₀ ns₀ start least ap an bp bn t count₀ first₀ second₀ k₀ ps ns count first second k = length bp - k
+μ-loop ps₀ ns₀ start least ap an bp bn t partners₀ count₀ first₀ second₀ k₀ ps ns partners count first second k = length bp - k
 
 abbrev Loop : Type 0
 Loop = tie.At-loop Inv-loop μ-loop
@@ -39,7 +40,7 @@ abbrev Called : Type 0
 Called = tie.After-add-join Inv-loop μ-loop
 
 abbrev start : Loop → tie.Start Inv-loop μ-loop
-start a = a .before .before .before .before .before .before .before
+start a = a .before .before .before .before .before .before .before .before
 
 abbrev making : Loop → Steps
 making a = let x = start a .args in steps (x .least) (termsOf (x .ap .now) (x .an .now)) (termsOf (x .bp .now) (x .bn .now)) (x .t)
@@ -58,14 +59,14 @@ evens : (a : Loop) → Even (first a)
 evens a = even (start a .args .positives .now) (start a .args .negatives .now) (start a .pre .0 .1)
 
 abbrev turn : Called → Loop
-turn p = p .before .before .before .before
+turn p = p .before .before .before .before .before .before
 
 sizes : (a : Loop) (b : Bool) → length (now a b) ≡ length (first a b)
 sizes a =
     let x = start a .args in
     turn-length (making a) (x .bp .now) (x .bn .now) (start a .pre .1 .1)
     (allMade (making a) (x .bp .now) (x .bn .now) (first a) (x .start)) (first a) (now a) (evens a) (a .loop .count) (a .loop .k)
-    (a .loop .inv)
+    (a .loop .inv .0)
 
 -- what was inserted for term k
 told : (p : Called) (r : Joined) → p .add-join .result ≡ r
@@ -91,30 +92,35 @@ again p r n e h =
     let x = start a .args in
     turn-next (making a) (x .bp .now) (x .bn .now) (start a .pre .1 .1)
     (allMade (making a) (x .bp .now) (x .bn .now) (first a) (x .start)) (first a) (now a) (evens a) (a .loop .count) (a .loop .k)
-    (a .loop .inv) (p .before .before .before .loop-test .taken) (then p) n
+    (a .loop .inv .0) (p .before .before .before .before .before .loop-test .taken) (then p) n
     (subst (Added (making a .one (termAt (x .bp .now) (x .bn .now) (a .loop .k))) (now a) (a .loop .count) (then p)) h (told p r e))
 
 loop-holds : tie.Need-loop-holds Inv-loop μ-loop
 loop-holds c =
-    let s = c .before .before .before .before .before .before in
-    let x = s .args in
-    turn-start (steps (x .least) (termsOf (x .ap .now) (x .an .now)) (termsOf (x .bp .now) (x .bn .now)) (x .t))
-    (x .bp .now) (x .bn .now)
-    (bySign (x .positives .now) (x .negatives .now))
-    (even (x .positives .now) (x .negatives .now) (s .pre .0 .1)) (x .start) (s .pre .0 .0) (s .pre .0 .2)
+    let s = c .before .before .before .before .before .before .before in
+    let x = s .args in (
+      turn-start (steps (x .least) (termsOf (x .ap .now) (x .an .now)) (termsOf (x .bp .now) (x .bn .now)) (x .t))
+          (x .bp .now) (x .bn .now)
+          (bySign (x .positives .now) (x .negatives .now))
+          (even (x .positives .now) (x .negatives .now) (s .pre .0 .1)) (x .start) (s .pre .0 .0) (s .pre .0 .2),
+      refl,
+    )
+
+partner-of-requires : tie.Need-partner-of-requires Inv-loop μ-loop
+partner-of-requires c κs = search needs
 
 add-join-requires : tie.Need-add-join-requires Inv-loop μ-loop
 add-join-requires c κs =
-    let w = c .before .before in
+    let w = c .before .before .before .before in
     let a = w .before in
     let s = start a in
     let x = s .args in
     let fits : a .loop .count ≤ length (a .loop .positives) =
     turn-fits (making a) (x .bp .now) (x .bn .now) (s .pre .1 .1)
     (allMade (making a) (x .bp .now) (x .bn .now) (first a) (x .start)) (first a) (now a) (evens a) (a .loop .count) (a .loop .k)
-    (a .loop .inv) in
+    (a .loop .inv .0) in
     let same : length (a .loop .negatives) ≡ length (a .loop .positives) = sizes a false ∙ evens a false ∙ sym (sizes a true) in
-    ((fits, same, a .loop .inv .rising), (s .pre .1 .0, s .pre .1 .1, w .loop-test .taken))
+    ((fits, same, a .loop .inv .0 .rising), (s .pre .1 .0, s .pre .1 .1, w .loop-test .taken))
 
 enum-known-c : tie.Need-enum-known-c Inv-loop μ-loop
 enum-known-c c = search needs
@@ -128,6 +134,9 @@ same-length c = let p = c .before .before .before .before .before .before in p .
 same-length-2 : tie.Need-same-length-2 Inv-loop μ-loop
 same-length-2 c = let p = c .before .before .before .before .before .before in p .add-join .kept .1 .0 ∙ sizes (turn p) false
 
+same-length-3 : tie.Need-same-length-3 Inv-loop μ-loop
+same-length-3 c = let p = c .before .before .before .before .before .before in turn p .loop .inv .1
+
 returns : tie.Need-returns Inv-loop μ-loop
 returns c =
     let p = c .before .before .before .before .before .before in
@@ -135,34 +144,44 @@ returns c =
     let x = start a .args in
     turn-full (making a) (x .bp .now) (x .bn .now) (start a .pre .1 .1)
     (allMade (making a) (x .bp .now) (x .bn .now) (first a) (x .start)) (first a) (now a) (evens a) (a .loop .count) (a .loop .k)
-    (a .loop .inv) (p .before .before .before .loop-test .taken) (then p) (then p) (told p Over (c .enum-told .given .1))
+    (a .loop .inv .0) (p .before .before .before .before .before .loop-test .taken) (then p) (then p) (told p Over (c .enum-told .given .1))
 
 enum-known-p : tie.Need-enum-known-p Inv-loop μ-loop
 enum-known-p c = search needs
 
+pair-up-requires : tie.Need-pair-up-requires Inv-loop μ-loop
+pair-up-requires c κs = search needs
+
 add-k : tie.Need-add-k Inv-loop μ-loop
 add-k c =
     let p = c .before .before .before .before .before in
-    omega (arith, p .before .before .before .loop-test .taken, start (turn p) .good .1 .1 .1 .1 .1 .1 .0 .0)
+    omega (arith, p .before .before .before .before .before .loop-test .taken, start (turn p) .good .1 .1 .1 .1 .1 .1 .0 .0)
 
 loop-less : tie.Need-loop-less Inv-loop μ-loop
 loop-less c =
     let p = c .before .before .before .before .before in
-    omega (arith, p .before .before .before .loop-test .taken)
+    omega (arith, p .before .before .before .before .before .loop-test .taken)
 
 loop-again : tie.Need-loop-again Inv-loop μ-loop
 loop-again c =
     let p = c .before .before .before .before .before in
     let n : ℕ = c .match .count in
-    ⊎-elim (λ w. again p (Held (w .1 .given .0 .0)) n (w .1 .given .1) (ap Count (sym (w .3))))
-    (λ w. again p (Longer (w .1 .given .0 .0) (w .1 .given .0 .1 .0)) n (w .1 .given .1) (ap Count (sym (w .3))))
+    let same = turn p .loop .inv .1 in
+    ⊎-elim (λ w. (again p (Held (w .1 .given .0 .0)) n (w .1 .given .1) (ap Count (sym (w .4))), ap length (w .3) ∙ same))
+    (λ w. (
+      again p (Longer (w .1 .given .0 .0) (w .1 .given .0 .1 .0)) n (w .1 .given .1) (ap Count (sym (w .8))),
+      ap length (w .7) ∙ w .4 .kept .0 ∙ same,
+    ))
     (c .match .came)
 
-same-length-3 : tie.Need-same-length-3 Inv-loop μ-loop
-same-length-3 c = sizes (c .before) true
-
 same-length-4 : tie.Need-same-length-4 Inv-loop μ-loop
-same-length-4 c = sizes (c .before) false
+same-length-4 c = sizes (c .before) true
+
+same-length-5 : tie.Need-same-length-5 Inv-loop μ-loop
+same-length-5 c = sizes (c .before) false
+
+same-length-6 : tie.Need-same-length-6 Inv-loop μ-loop
+same-length-6 c = c .before .loop .inv .1
 
 returns-2 : tie.Need-returns-2 Inv-loop μ-loop
 returns-2 c =
@@ -170,7 +189,7 @@ returns-2 c =
     let x = start a .args in
     turn-end (making a) (x .bp .now) (x .bn .now) (start a .pre .1 .1)
     (allMade (making a) (x .bp .now) (x .bn .now) (first a) (x .start)) (first a) (now a) (evens a) (a .loop .count) (a .loop .k)
-    (a .loop .inv) (c .loop-test .left)
+    (a .loop .inv .0) (c .loop-test .left)
 
 pub join-each-spec : {M : Type 1} → statement M
 join-each-spec =
@@ -179,16 +198,20 @@ join-each-spec =
     Inv-loop
     μ-loop
     loop-holds
+    partner-of-requires
     add-join-requires
     enum-known-c
     enum-told
     same-length
     same-length-2
+    same-length-3
     returns
     enum-known-p
+    pair-up-requires
     add-k
     loop-less
     loop-again
-    same-length-3
     same-length-4
+    same-length-5
+    same-length-6
     returns-2)

@@ -14,7 +14,7 @@ use Rattle.builder.proofs.join_with.Statement.{statement}
 use Rattle.builder.proofs.join_with.Tie as tie
 
 abbrev start : tie.After-is-alone → tie.Start
-start h = h .before .before .before .before .before .before .before
+start h = h .before .before .before .before .before .before .before .before
 
 abbrev slices : tie.Start → Bool → List ℕ
 slices s = bySign (s .args .positives .now) (s .args .negatives .now)
@@ -61,10 +61,13 @@ same-length-3 c = search needs
 same-length-4 : tie.Need-same-length-4
 same-length-4 c = search needs
 
+same-length-5 : tie.Need-same-length-5
+same-length-5 c = search needs
+
 returns-2 : tie.Need-returns-2
 returns-2 c =
-    let i = c .before .before .before .before in
-    let e = i .before .before .before in
+    let i = c .before .before .before .before .before .before in
+    let e = i .before .before .before .before in
     let s = start (e .before) in
     let s′ : Bool → List ℕ = bySign (i .join-each .last .0) (i .join-each .last .1 .0) in
     subst (λ (l : List Term). Added l (slices s) (s .args .count) s′ (i .join-each .result))
@@ -83,4 +86,5 @@ join-with-spec =
     join-each-requires
     same-length-3
     same-length-4
+    same-length-5
     returns-2)

@@ -243,6 +243,21 @@ pub fn more_on_one_side(k: usize, m: u32, more_high: bool) -> Family {
     named(format!("more {}, at least {k} of {m}", if more_high { "high" } else { "low" }), c)
 }
 
+/// A decision whose low side has p = C(m, k) terms and whose high side 2 q = 2 C(o, l) and two last ones. Of two joins in turn, the one
+/// holds the join with the one last term, the other that with the other.
+pub fn alternating(k: usize, m: u32, l: usize, o: u32) -> Family {
+    let size = l as u32;
+    let mut c = Circuit::new(3 + m + o + size);
+    let u = range(3 + m + o, size);
+    let (all_u, g) = (every(&mut c, &u), c.at_least(k, &range(3, m)));
+    let low = c.conjunction(all_u, g);
+    let (one_of_two, h) = (c.at_least(1, &[1, 2]), c.at_least(l, &range(3 + m, o)));
+    let rest = every_or(&mut c, &u, h);
+    let high = c.conjunction(one_of_two, rest);
+    c.decision(0, low, high);
+    named(format!("alternating, at least {k} of {m} and {l} of {o}"), c)
+}
+
 /// The families of the table.
 pub fn usual() -> Vec<Family> {
     vec![
@@ -296,5 +311,7 @@ pub fn worst() -> Vec<Family> {
         more_on_one_side(5, 11, true),
         more_on_one_side(6, 13, false),
         more_on_one_side(6, 13, true),
+        alternating(4, 10, 4, 11),
+        alternating(4, 12, 5, 13),
     ]
 }

@@ -3,4 +3,3 @@ pub mod Gate
 pub mod Function
 pub mod Outcome
 pub mod Check
-pub mod Known

@@ -30,7 +30,7 @@ use Rattle.text.proofs.Clean.{append-none, none-append, unless-none, no
 use Rattle.text.proofs.Grammar.{IsNumber}
 use Rattle.text.proofs.Meaning.{value-not}
 use Rattle.text.proofs.Refusals.{bytes-append, worded, begins-same, marked, marked-same, printed-inside, same-number}
-use Rattle.text.proofs.Viability.{Bytes, Span, join, one-byte, MatchSaid, match-said, NumberSaid, number-said, past-end}
+use Rattle.text.proofs.Spans.{Bytes, Span, join, one-byte, MatchSaid, match-said, NumberSaid, number-said, past-end}
 
 -- a line that prints to these bytes
 abbrev pub IsAssignment : List ℕ → Type 0

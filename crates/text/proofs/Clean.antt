@@ -12,7 +12,7 @@ use Rattle.text.specs.Faults.{unless, nodesIn, closing, formFaults, line
 use Rattle.text.specs.Syntax.{decimal, printForm, print, Below, compileForm, compileLines, compile, depth, LinesWithin}
 use Rattle.text.specs.Syntax.{Tree, Compiled, Within, Form, constantForm, literalForm, decisionForm, conjunctionForm}
 use Rattle.text.specs.Syntax.{lineForm}
-use Rattle.text.proofs.Printed.{compile-nodes, compile-length}
+use Rattle.text.proofs.NodeWords.{compile-nodes, compile-length}
 
 pub append-none : {A : Type 0} (xs ys : List A) → xs ++ ys ≡ [] → (xs ≡ []) × (ys ≡ [])
 append-none [] ys e = (refl, e)

@@ -10,7 +10,7 @@ use Rattle.text.specs.Read.{ownKinds, allKinds, wordOf}
 use Rattle.text.specs.Syntax.{decimal, printForm, printLines, print, Below, Own, GrammaticalLines, Tree, Grammatical, Form}
 use Rattle.text.specs.Syntax.{constantForm, literalForm, decisionForm, conjunctionForm, lineForm}
 use Rattle.text.proofs.Pieces.{decimal-1, decimal-2, decimal-3, decimal-4}
-use Rattle.text.proofs.Printed.{literal-flat, line-flat, decision-flat, conjunction-flat, kindNumber}
+use Rattle.text.proofs.Spelling.{literal-flat, line-flat, decision-flat, conjunction-flat, kindNumber}
 use Rattle.text.proofs.Texts.{header-flat}
 
 abbrev pub IsNumber : List ℕ → Type 0

@@ -1,10 +1,19 @@
 pub mod Laws
 pub mod Pieces
+pub mod Spelling
+pub mod NodeWords
+pub mod FirstFault
+pub mod PrintedLeaves
+pub mod PrintedArguments
 pub mod Printed
 pub mod Clean
 pub mod Texts
 pub mod Locality
 pub mod Grammar
+pub mod Spans
+pub mod ViableHeads
+pub mod ViableForms
+pub mod NodeCount
 pub mod Viability
 pub mod Meaning
 pub mod Refusals
@@ -12,4 +21,3 @@ pub mod RoundTrip
 pub mod Ordered
 pub mod AssignmentLines
 pub mod AssignmentMeaning
-pub mod SmallCircuits

@@ -16,7 +16,8 @@ use Rattle.text.specs.Syntax.{print, compileLines, compile, Tree, Gramma
 use Rattle.text.proofs.Clean.{lines-compiled, tree-clean, clean-tree}
 use Rattle.text.proofs.Grammar.{IsText}
 use Rattle.text.proofs.Texts.{AnswerRead, readBody, treeGood, tree-read}
-use Rattle.text.proofs.Viability.{Bytes, Said, body-said}
+use Rattle.text.proofs.Spans.{Bytes}
+use Rattle.text.proofs.Viability.{Said, body-said}
 
 -- a text of at most 40,000 bytes is read by its header and lines
 pub short : (s : List ℕ) (m : ℕ) → length s ≤ 40000 → readText s m ≡ readBody s m

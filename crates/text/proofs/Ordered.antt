@@ -9,7 +9,7 @@ use lib.ListN.{length, length-append}
 use Rattle.text.specs.Faults.{unless, nodesIn, closing, formFaults, linesFaults, treeFaults}
 use Rattle.text.specs.Syntax.{decimal, printForm, printLines, print, Tree, Form, constantForm, literalForm, decisionForm}
 use Rattle.text.specs.Syntax.{conjunctionForm, lineForm}
-use Rattle.text.proofs.Printed.{constant-length, literal-length, line-length, decision-length, conjunction-length, begins}
+use Rattle.text.proofs.Spelling.{constant-length, literal-length, line-length, decision-length, conjunction-length, begins}
 use Rattle.text.proofs.Texts.{header-flat}
 
 -- places from lo to hi, none below the one before

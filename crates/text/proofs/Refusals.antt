@@ -23,7 +23,8 @@ use Rattle.text.proofs.Grammar.{IsText}
 use Rattle.text.proofs.Locality.{SameTo, body-local}
 use Rattle.text.proofs.Meaning.{short, long, value-not}
 use Rattle.text.proofs.Texts.{AnswerRead, readBody, treeGood, tree-read}
-use Rattle.text.proofs.Viability.{viableTo, Bytes, Said, past-end, body-said}
+use Rattle.text.proofs.Spans.{viableTo, Bytes, past-end}
+use Rattle.text.proofs.Viability.{Said, body-said}
 
 -- ---- the bytes of a printed text are bytes
 pub bytes-append : (x y : List ℕ) → Bytes x → Bytes y → Bytes (x ++ y)

@@ -25,7 +25,7 @@ use Rattle.text.specs.Syntax.{decisionForm, conjunctionForm, lineForm}
 use Rattle.text.specs.Write.{nodeForm, tableText}
 use Rattle.text.proofs.Clean.{linesNodes, lines-compiled}
 use Rattle.text.proofs.Meaning.{read-complete}
-use Rattle.text.proofs.Printed.{constant-length, literal-length, line-length, decision-length, conjunction-length}
+use Rattle.text.proofs.Spelling.{constant-length, literal-length, line-length, decision-length, conjunction-length}
 
 -- the forms of k nodes from node i on
 abbrev formsFrom : List ℕ → ℕ → ℕ → List Form

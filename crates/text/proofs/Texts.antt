@@ -27,7 +27,10 @@ use Rattle.text.specs.declared.answer.Step.the-variants.{Made}
 use Rattle.text.specs.declared.head.InRange.the-variants.{Inside, Unfit}
 use Rattle.text.proofs.Clean.{form-clean}
 use Rattle.text.proofs.Pieces.{Here, byte, ended, past, next, matched, ranged}
-use Rattle.text.proofs.Printed.{StepRead, sets-append, compile-nodes, compile-length, own-kind, begins, form-read}
+use Rattle.text.proofs.FirstFault.{StepRead}
+use Rattle.text.proofs.NodeWords.{sets-append, compile-nodes, compile-length}
+use Rattle.text.proofs.Printed.{form-read}
+use Rattle.text.proofs.Spelling.{own-kind, begins}
 
 -- what is read: the first of the faults, or else the good result
 abbrev pub AnswerRead : List (ℕ × ℕ) → ReadOut → ReadOut → Type 0

@@ -7,4 +7,3 @@ pub mod Faults
 pub mod Write
 pub mod AssignmentLine
 pub mod AssignmentSyntax
-pub mod Small

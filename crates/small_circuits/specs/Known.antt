@@ -1,0 +1,52 @@
+-- What is known of a small circuit, and that the definitions of the public operations say so.
+use Prim.Native.Nat.{ℕ, pred, _*_}
+use mathlib.Core.Bool.{Bool, true, false, _&&_, cond}
+use mathlib.Core.List.{List, [], _∷_}
+use lib.Dec.{eqb}
+use lib.ListN.{replicate}
+use Rattle.terms.specs.Lists.{all}
+use Rattle.terms.specs.declared.Term.{Term}
+use Rattle.circuits.specs.Check.{check}
+use Rattle.circuits.specs.Outcome.{Outcome, answered, refused}
+use Rattle.queries.specs.Queries.{modelCount}
+use Rattle.primes.specs.Listing.{nodePrimes, listing}
+
+pub data Known : Type 0 where
+  -- it is refused, with this number and node
+  fault : ℕ → ℕ → Known
+  -- its prime implicants in order, its model count, and whether some capacities suffice
+  accepts : List Term → ℕ → List (ℕ × Bool) → Known
+
+abbrev sameTerms : List Term → List Term → Bool
+sameTerms [] [] = true
+sameTerms [] (u ∷ us) = false
+sameTerms (t ∷ ts) [] = false
+sameTerms (t ∷ ts) (u ∷ us) = eqb (t .positive) (u .positive) && eqb (t .negative) (u .negative) && sameTerms ts us
+
+abbrev refusedAs : {A : Type 0} → ℕ → ℕ → Outcome A → Bool
+refusedAs k i (answered v) = false
+refusedAs k i (refused k′ i′) = eqb k k′ && eqb i i′
+
+abbrev isAccepted : Outcome (Unit {0}) → Bool
+isAccepted (answered u) = true
+isAccepted (refused k i) = false
+
+abbrev isCount : ℕ → Outcome ℕ → Bool
+isCount m (answered v) = eqb v m
+isCount m (refused k i) = false
+
+-- a listing with this capacity, into buffers of just the needed length, is done, or refused with 42
+abbrev fits : ℕ → ℕ → List ℕ → ℕ → Bool → Bool
+fits N n w R enough =
+    let rows : List ℕ = replicate (n * R) 7 in
+    let answer : Outcome (Unit {0}) = listing N n w R rows rows (replicate n 7) in
+    cond enough (isAccepted answer) (refusedAs 42 0 answer)
+
+-- of a table of n nodes over N variables; the circuit is the last node
+abbrev pub holds : ℕ → ℕ → List ℕ → Known → Bool
+holds N n w (fault k i) = refusedAs k i (check N n w)
+holds N n w (accepts ts m capacities) =
+    isAccepted (check N n w)
+    && sameTerms (nodePrimes N w (pred n)) ts
+    && isCount m (modelCount N n w)
+    && all (λ c. fits N n w (c .0) (c .1)) capacities

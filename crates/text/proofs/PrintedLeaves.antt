@@ -1,0 +1,177 @@
+-- The reading of a printed form that has no children: its first fault, or the node that it stands for.
+use Prim.Native.Nat.{ℕ, suc, _+_, _<_}
+use mathlib.Core.Path.{_≡_, refl, sym, ap, subst, _∙_}
+use mathlib.Core.Bool.{Bool, true, false, cond}
+use mathlib.Core.List.{List, [], _∷_, _++_}
+use native.Mathlib.Omega.{arith}
+use native.Mathlib.Decide.{decLt}
+use lib.Dec.{ltb, leb}
+use lib.ListN.{length, getD}
+use borrow.Author.Tests.{eq-eqb, lt-ltb, le-ltb, le-leb, lt-leb}
+use Rattle.text.specs.Faults.{unless}
+use Rattle.text.specs.Read.{byteAt, rangedAt, kindOf, allKinds, wordOf, leafOf, lineOf, tailAt, headAt, store, closeAt}
+use Rattle.text.specs.Read.{setting, openedOf, formAt, Stepped, Setting}
+use Rattle.text.specs.Syntax.{decimal, printForm, constantForm, literalForm, lineForm}
+use Rattle.text.specs.declared.answer.Fault.{Fault}
+use Rattle.text.specs.declared.answer.Fault.the-variants.{Capacity, Range, Reference}
+use Rattle.text.specs.declared.answer.Step.the-variants.{Made}
+use Rattle.text.specs.declared.head.InRange.the-variants.{Inside, Unfit}
+use Rattle.text.specs.declared.head.Limits.{Limits}
+use Rattle.text.specs.declared.head.Opening.{Opening}
+use Rattle.text.specs.declared.head.Opening.the-variants.{Leaf, Broken, Line}
+use Rattle.text.proofs.FirstFault.{StepRead}
+use Rattle.text.proofs.Pieces.{Here, byte, past, ranged, opening}
+use Rattle.text.proofs.Spelling.{constant-flat, literal-flat, line-flat}
+
+module _ (s : List ℕ) where
+  -- a printed number, by its bound
+  pub range-read : (x high end at : ℕ) (why : Fault) (r : List ℕ) → x < 10000 → end < 48 → Here s at (decimal x ++ (end ∷ r))
+      → rangedAt s at 0 high end why ≡ cond (ltb x high) (Inside x (at + length (decimal x))) (Unfit why (at + length (decimal x)))
+  range-read x high end at why r lx le h = ranged s x 0 high end at why r lx le h ∙ by (decLt x high)
+    where
+      p : ℕ
+      p = at + length (decimal x)
+
+      by : Dec (x < high) → cond (ltb x 0) (Unfit why p) (cond (leb high x) (Unfit why p) (Inside x p))
+          ≡ cond (ltb x high) (Inside x p) (Unfit why p)
+      by (yes l) = rw (le-ltb x 0 (omega arith), lt-leb high x l, lt-ltb x high l)
+      by (no l) = rw (le-ltb x 0 (omega arith), le-leb high x (omega arith), le-ltb x high (omega arith))
+
+module _ (s : List ℕ) (N k room : ℕ) (lines : List ℕ) where
+  abbrev lim : Limits
+  lim = record { variables = N; capacity = room; earlier = k }
+
+  abbrev G : Setting
+  G = setting s lines lim
+
+  -- a closing bracket, by the room for a node
+  pub close-read : (p : ℕ) (w : List ℕ) (n kind x a b : ℕ) (r : List ℕ) → Here s p (41 ∷ r)
+      → StepRead (unless (ltb n room) 15 p) (record { step = Made (p + 1) (n + 1) n; words = store w n kind x a b })
+      (closeAt s p w n room kind x a b)
+  unfolding closeAt
+  close-read p w n kind x a b r h = by (decLt n room)
+    where
+      by : Dec (n < room) → StepRead (unless (ltb n room) 15 p) (record { step = Made (p + 1) (n + 1) n; words = store w n kind x a b })
+          (closeAt s p w n room kind x a b)
+      by (yes l) = rw (lt-ltb n room l, eq-eqb (byteAt s p) 41 (byte s p 41 r h), lt-leb room n l)
+      by (no l) =
+          rw (le-ltb n room (omega arith), eq-eqb (byteAt s p) 41 (byte s p 41 r h), le-leb room n (omega arith))
+          (Capacity, refl, refl)
+
+  -- a form by its head
+  pub by-head : (d kinds at : ℕ) (w : List ℕ) (n : ℕ) (o : Opening) → headAt s at kinds lim ≡ o
+      → formAt (suc d) G kinds at w n ≡ openedOf (formAt d G allKinds) G w n o
+  unfolding formAt
+  by-head d kinds at w n o h = ap (openedOf (formAt d G allKinds) G w n) h
+
+  module _ (d kinds at : ℕ) (w : List ℕ) (n : ℕ) where
+    pub constant-read : (v : Bool) (r : List ℕ) → cond v 1 0 < kinds → Here s at (printForm (constantForm v) ++ r)
+        → let p : ℕ = at + 2 + length (wordOf (cond v 1 0)) in
+        StepRead (unless (ltb n room) 15 p) (record { step = Made (p + 1) (n + 1) n; words = store w n (cond v 1 0) 0 0 0 })
+        (formAt (suc d) G kinds at w n)
+    unfolding tailAt kindOf
+    constant-read v r l h =
+        let c : ℕ = cond v 116 102 in
+        let kd : ℕ = cond v 1 0 in
+        let p : ℕ = at + 2 + length (wordOf kd) in
+        let h₁ : Here s at (40 ∷ c ∷ (wordOf kd ++ (41 ∷ r))) = subst (Here s at) (constant-flat v r) h in
+        let h₂ : Here s p (41 ∷ r) =
+        past s (at + 2) (wordOf kd) (41 ∷ r) (past s at (40 ∷ c ∷ []) (wordOf kd ++ (41 ∷ r)) h₁) in
+        let e : headAt s at kinds lim ≡ Leaf kd 0 p = opening s c kd kinds at lim (41 ∷ r) (kind v) l h₁ ∙ tail v p in
+        subst (StepRead (unless (ltb n room) 15 p) (record { step = Made (p + 1) (n + 1) n; words = store w n kd 0 0 0 }))
+        (sym (by-head d kinds at w n (Leaf kd 0 p) e)) (close-read p w n kd 0 0 0 r h₂)
+      where
+        kind : (v : Bool) → kindOf (cond v 116 102) ≡ cond v 1 0
+        kind true = refl
+        kind false = refl
+
+        tail : (v : Bool) (p : ℕ) → tailAt s p (cond v 1 0) lim ≡ Leaf (cond v 1 0) 0 p
+        tail true p = refl
+        tail false p = refl
+
+    pub literal-read : (v : Bool) (x : ℕ) (r : List ℕ) → x < 10000 → cond v 2 3 < kinds → Here s at (printForm (literalForm v x) ++ r)
+        → let p : ℕ = at + 2 + length (wordOf (cond v 2 3)) + length (decimal x) in
+        StepRead (unless (ltb x N) 12 p ++ unless (ltb n room) 15 p)
+        (record { step = Made (p + 1) (n + 1) n; words = store w n (cond v 2 3) x 0 0 }) (formAt (suc d) G kinds at w n)
+    unfolding tailAt kindOf
+    literal-read v x r lx l h = by (decLt x N)
+      where
+        kd : ℕ
+        kd = cond v 2 3
+
+        c : ℕ
+        c = cond v 121 110
+
+        q : ℕ
+        q = at + 2 + length (wordOf (cond v 2 3))
+
+        p : ℕ
+        p = q + length (decimal x)
+
+        kind : (v : Bool) → kindOf (cond v 121 110) ≡ cond v 2 3
+        kind true = refl
+        kind false = refl
+
+        tail : (v : Bool) (q : ℕ) → tailAt s q (cond v 2 3) lim ≡ leafOf (cond v 2 3) (rangedAt s q 0 N 41 Range)
+        tail true q = refl
+        tail false q = refl
+
+        h₁ : Here s at (40 ∷ c ∷ (wordOf kd ++ (decimal x ++ (41 ∷ r))))
+        h₁ = subst (Here s at) (literal-flat v x r) h
+
+        h₂ : Here s q (decimal x ++ (41 ∷ r))
+        h₂ = past s (at + 2) (wordOf kd) (decimal x ++ (41 ∷ r)) (past s at (40 ∷ c ∷ []) (wordOf kd ++ (decimal x ++ (41 ∷ r))) h₁)
+
+        head : headAt s at kinds lim ≡ leafOf kd (cond (ltb x N) (Inside x p) (Unfit Range p))
+        head =
+            opening s c kd kinds at lim (decimal x ++ (41 ∷ r)) (kind v) l h₁ ∙ tail v q
+            ∙ ap (leafOf kd) (range-read s x N 41 q Range r lx (omega arith) h₂)
+
+        good : Stepped
+        good = record { step = Made (p + 1) (n + 1) n; words = store w n kd x 0 0 }
+
+        by : Dec (x < N) → StepRead (unless (ltb x N) 12 p ++ unless (ltb n room) 15 p) good (formAt (suc d) G kinds at w n)
+        by (yes a) =
+            let t : ltb x N ≡ true = lt-ltb x N a in
+            let e : headAt s at kinds lim ≡ Leaf kd x p = head ∙ ap (λ (b : Bool). leafOf kd (cond b (Inside x p) (Unfit Range p))) t in
+            rw (t, by-head d kinds at w n (Leaf kd x p) e) (close-read p w n kd x 0 0 r (past s q (decimal x) (41 ∷ r) h₂))
+        by (no a) =
+            let t : ltb x N ≡ false = le-ltb x N (omega arith) in
+            let e : headAt s at kinds lim ≡ Broken Range p = head ∙ ap (λ (b : Bool). leafOf kd (cond b (Inside x p) (Unfit Range p))) t in
+            rw (t, by-head d kinds at w n (Broken Range p) e) (Range, refl, refl)
+
+    pub line-read : (j : ℕ) (r : List ℕ) → j < 10000 → 6 < kinds → Here s at (printForm (lineForm j) ++ r)
+        → let p : ℕ = at + 6 + length (decimal j) in
+        StepRead (unless (ltb j k) 13 p) (record { step = Made (p + 1) n (getD lines j 0); words = w }) (formAt (suc d) G kinds at w n)
+    unfolding tailAt kindOf
+    line-read j r lj l h = by (decLt j k)
+      where
+        p : ℕ
+        p = at + 6 + length (decimal j)
+
+        h₁ : Here s at (40 ∷ 108 ∷ (wordOf 6 ++ (decimal j ++ (41 ∷ r))))
+        h₁ = subst (Here s at) (line-flat j r) h
+
+        h₂ : Here s (at + 6) (decimal j ++ (41 ∷ r))
+        h₂ = past s at (40 ∷ 108 ∷ wordOf 6) (decimal j ++ (41 ∷ r)) h₁
+
+        six : at + 2 + 4 ≡ at + 6
+        six = omega arith
+
+        head : headAt s at kinds lim ≡ lineOf (cond (ltb j k) (Inside j p) (Unfit Reference p))
+        head =
+            opening s 108 6 kinds at lim (decimal j ++ (41 ∷ r)) refl l h₁
+            ∙ ap (λ (q : ℕ). lineOf (rangedAt s q 0 k 41 Reference)) six
+            ∙ ap lineOf (range-read s j k 41 (at + 6) Reference r lj (omega arith) h₂)
+
+        by : Dec (j < k) → StepRead (unless (ltb j k) 13 p) (record { step = Made (p + 1) n (getD lines j 0); words = w })
+            (formAt (suc d) G kinds at w n)
+        by (yes a) =
+            let t : ltb j k ≡ true = lt-ltb j k a in
+            let e : headAt s at kinds lim ≡ Line j p = head ∙ ap (λ (b : Bool). lineOf (cond b (Inside j p) (Unfit Reference p))) t in
+            rw (t, by-head d kinds at w n (Line j p) e)
+        by (no a) =
+            let t : ltb j k ≡ false = le-ltb j k (omega arith) in
+            let e : headAt s at kinds lim ≡ Broken Reference p =
+            head ∙ ap (λ (b : Bool). lineOf (cond b (Inside j p) (Unfit Reference p))) t in
+            rw (t, by-head d kinds at w n (Broken Reference p) e) (Reference, refl, refl)

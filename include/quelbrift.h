@@ -13,6 +13,14 @@
  * A circuit is a table of u32 words, four a node: kind, variable, a, b; node i stands at word 4 * i, the last node is the whole
  * circuit. Kinds: 0 false, 1 true, 2 yes, 3 no, 4 pick (a where the variable is false, b where it is true), 5 both. An unused word
  * is 0, and children stand below their parent. Tables hold 1 to 1,024 nodes over 1 to 40 variables.
+ *
+ * A circuit text is at most 40,000 bytes of lines, each ended by byte 10: first (circuit N), N the number of variables, then one or
+ * more forms:
+ *     (true)  (false)  (yes V)  (no V)  (pick V F F)  (both F F)  (line K)
+ * V is a variable, below N; F a form; K the number of an earlier line, the first after the header being 0. A line's own form is not
+ * line. One space stands between parts, none elsewhere; brackets go at most 16 deep; a number has one to four digits and no leading
+ * zero. A node is made at each closing bracket, so children first, the left before the right; (line K) makes none, it means the
+ * node of line K's own form.
  */
 #ifndef QUELBRIFT_H
 #define QUELBRIFT_H
@@ -41,7 +49,7 @@ enum {
     QUELBRIFT_DONE = 0,
     /* of a circuit text, with the byte */
     QUELBRIFT_LENGTH = 10,    /* over 40,000 bytes; the place is 40,000 */
-    QUELBRIFT_SHAPE = 11,     /* wrong shape: no text goes on with this byte; or the end, where more is needed */
+    QUELBRIFT_SHAPE = 11,     /* wrong shape: no circuit text goes on with this byte; or the end, where more is needed */
     QUELBRIFT_RANGE = 12,     /* a number of variables or a variable out of range; the byte after it */
     QUELBRIFT_REFERENCE = 13, /* not the number of an earlier line; the byte after it */
     QUELBRIFT_DEPTH = 14,     /* a bracket seventeen deep */
@@ -52,13 +60,13 @@ enum {
     QUELBRIFT_TABLE = 21,          /* variables, nodes or words out of range; node 0 */
     QUELBRIFT_MALFORMED = 22,      /* a kind above 5, a variable or child out of range, an unused word that is not 0 */
     QUELBRIFT_PARENTLESS = 23,     /* a node, not the last, that is nobody's child */
-    QUELBRIFT_UNDECOMPOSABLE = 24, /* a variable that meets itself */
+    QUELBRIFT_UNDECOMPOSABLE = 24, /* a both with a variable under both children, or a pick with its own under a child */
     QUELBRIFT_UNREDUCED = 25,      /* a both with a false child, or a pick with two */
     /* of the question; the place is 0 */
     QUELBRIFT_ASSIGNMENT = 31,  /* a bit at the number of variables or above */
     QUELBRIFT_TERM = 32,        /* such a bit, or one in both masks */
     QUELBRIFT_UNSATISFIED = 33, /* the assignment is not allowed */
-    QUELBRIFT_BUFFERS = 41,     /* a capacity above 4,096, or buffers too small for it */
+    QUELBRIFT_BUFFERS = 41,     /* a capacity above 4,096, a row buffer below nodes * capacity, or counts below nodes */
     QUELBRIFT_CAPACITY = 42,    /* more prime implicants than the capacity */
     /* of an assignment line, with the byte */
     QUELBRIFT_LINE_SHAPE = 51, /* wrong shape, placed as 11 */
@@ -68,7 +76,7 @@ enum {
 /*
  * Reads a circuit text into words, at most 1,024 nodes or a quarter of the words.
  * Done: first is the number of variables, second the number of nodes; the words past the nodes are 0.
- * Refuses: 10, else 11 to 15 at the lowest byte. Every word is 0 then.
+ * Refuses: 10, else 11 to 15 at the lowest byte; of those at one byte 11 comes first and 15 last. Every word is 0 then.
  */
 quelbrift_answer quelbrift_read(const uint8_t *text, size_t text_length, uint32_t *words, size_t words_length);
 
@@ -129,6 +137,8 @@ quelbrift_answer quelbrift_reduce(const uint32_t *words, size_t words_length, ui
  * Done: no value. No count is above the last node's.
  * Refuses: 21 to 25, then 41; all buffers are unchanged then. Then 42, exactly where the circuit has more clearances than the
  * capacity; the first nodes * capacity entries of both row buffers and the first nodes counts are 0 then, later ones unchanged.
+ * Time: usual circuits take milliseconds, but a pick over two children with thousands of clearances each can take seconds, and a
+ * table of hundreds of such nodes minutes (docs/PERFORMANCE.md). A call can not be interrupted.
  */
 quelbrift_answer quelbrift_list(const uint32_t *words, size_t words_length, uint32_t variables, uint32_t nodes, uint32_t capacity,
                                 uint64_t *positives, size_t positives_length, uint64_t *negatives, size_t negatives_length,
@@ -145,7 +155,7 @@ quelbrift_answer quelbrift_view(const uint64_t *buffer, size_t buffer_length, ui
 /*
  * Reads a stow line, (stow V V ...) and byte 10: the variables that are true, rising; every other one is false.
  * Done: first is the assignment. Refuses: 21 (place 0) where the number of variables is out of range; else 51 or 52 at the lowest
- * byte.
+ * byte, at one byte 51.
  */
 quelbrift_answer quelbrift_read_assignment(const uint8_t *line, size_t line_length, uint32_t variables);
 

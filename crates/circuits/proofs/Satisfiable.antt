@@ -14,7 +14,7 @@ use Rattle.terms.proofs.Embeddings.{side-embeds, Embeds}
 use Rattle.terms.proofs.Implicants.{Prime}
 use Rattle.terms.proofs.Sorted.{any-i}
 use Rattle.terms.proofs.Terms.{own-agrees}
-use Rattle.circuits.specs.Check.{allDisjoint, isFalse, nodeDead, unreduced}
+use Rattle.circuits.specs.Check.{allDisjoint, isFalse, nodeUnreduced, unreduced}
 use Rattle.circuits.specs.Function.{function, support}
 use Rattle.circuits.specs.Node.{nodeAt, children, Node, constant, literal, decision, conjunction, unknown}
 use Rattle.circuits.proofs.Accepted.{Accepted}
@@ -46,7 +46,7 @@ module _ (N n : ℕ) (w : List ℕ) (acc : Accepted N n w) where
   conjunction-live i cs l e c m =
       not-T (isFalse (nodeAt w c))
       (λ p. T-not (any (λ c. isFalse (nodeAt w c)) cs)
-      (subst (λ (y : Node). T (not (nodeDead (λ c. isFalse (nodeAt w c)) y))) e (acc .reduced i l))
+      (subst (λ (y : Node). T (not (nodeUnreduced (λ c. isFalse (nodeAt w c)) y))) e (acc .reduced i l))
       (any-i (λ c. isFalse (nodeAt w c)) cs c m p))
 
   decision-live : (i x a b : ℕ) → i < n → nodeAt w i ≡ decision x a b → (c : Bool) × Live (cond c b a)
@@ -54,7 +54,7 @@ module _ (N n : ℕ) (w : List ℕ) (acc : Accepted N n w) where
   decision-live i x a b l e =
       ⊎-elim {C = (c : Bool) × Live (cond c b a)} (λ (p : Live a). (false, p)) (λ (p : Live b). (true, p))
       (not-and (isFalse (nodeAt w a)) (isFalse (nodeAt w b))
-      (subst (λ (y : Node). T (not (nodeDead (λ c. isFalse (nodeAt w c)) y))) e (acc .reduced i l)))
+      (subst (λ (y : Node). T (not (nodeUnreduced (λ c. isFalse (nodeAt w c)) y))) e (acc .reduced i l)))
 
   pub side-up : (i x a b : ℕ) → i < n → nodeAt w i ≡ decision x a b → (c : Bool) → Embeds N (sides w a b c) (function w i)
   side-up i x a b l e c =

@@ -43,17 +43,29 @@ abbrev pub wellFormed : ℕ → ℕ → Kind → ℕ → ℕ → ℕ → Bool
 wellFormed N i k x a b =
     isKnown k && wordFits (usesVariable k) N x && wordFits (usesChildren k) i a && wordFits (usesChildren k) i b
 
+-- a number of variables that is allowed
+abbrev pub variablesFit : ℕ → Bool
+variablesFit N = leb 1 N && leb N 40
+
 -- 21: N or n outside its range, or too few words
 abbrev pub inRange : ℕ → ℕ → List ℕ → Bool
-inRange N n w = leb 1 N && leb N 40 && leb 1 n && leb n 1024 && leb (nodeWords * n) (length w)
+inRange N n w = variablesFit N && leb 1 n && leb n 1024 && leb (nodeWords * n) (length w)
 
 -- 22: a kind above 5, a used fact not below N, a used child not below its parent, or an unused word not 0
 unfoldable pub malformed : ℕ → List ℕ → ℕ → Bool
 malformed N w i = not (wellFormed N i (kind (word w i 0)) (word w i 1) (word w i 2) (word w i 3))
 
+-- the node has the child c
+abbrev pub hasChild : ℕ → Node → Bool
+hasChild c y = any (eqb c) (children y)
+
+-- some node below n has the child c
+abbrev pub isChild : List ℕ → ℕ → ℕ → Bool
+isChild w n c = some n (λ j. hasChild c (nodeAt w j))
+
 -- 23: node i of n, not the last, is nobody's child
 unfoldable pub parentless : List ℕ → ℕ → ℕ → Bool
-parentless w n i = ltb (suc i) n && not (some n (λ j. any (eqb i) (children (nodeAt w j))))
+parentless w n i = ltb (suc i) n && not (isChild w n i)
 
 -- no variable is in two of the masks
 abbrev pub allDisjoint : (ℕ → ℕ) → List ℕ → Bool
@@ -80,16 +92,16 @@ isFalse (conjunction cs) = false
 isFalse unknown = false
 
 -- a `both` with a `false` child, or a `pick` with two; p tells the `false` nodes
-abbrev pub nodeDead : (ℕ → Bool) → Node → Bool
-nodeDead p (constant b) = false
-nodeDead p (literal b x) = false
-nodeDead p (decision x a b) = p a && p b
-nodeDead p (conjunction cs) = any p cs
-nodeDead p unknown = false
+abbrev pub nodeUnreduced : (ℕ → Bool) → Node → Bool
+nodeUnreduced p (constant b) = false
+nodeUnreduced p (literal b x) = false
+nodeUnreduced p (decision x a b) = p a && p b
+nodeUnreduced p (conjunction cs) = any p cs
+nodeUnreduced p unknown = false
 
 -- 25: node i is not reduced in the sense of source document 000, section 2.1
 unfoldable pub unreduced : List ℕ → ℕ → Bool
-unreduced w i = nodeDead (λ c. isFalse (nodeAt w c)) (nodeAt w i)
+unreduced w i = nodeUnreduced (λ c. isFalse (nodeAt w c)) (nodeAt w i)
 
 -- the table is accepted
 abbrev pub accepted : Outcome (Unit {0})
@@ -103,13 +115,17 @@ firstFault n (r ∷ rs) =
     let rest : Outcome (Unit {0}) = firstFault n rs in
     cond (ltb i n) (refused (r .0) i) rest
 
+-- 21, then such rules
+abbrev pub checkBy : ℕ → ℕ → List ℕ → List (ℕ × (ℕ → Bool)) → Outcome (Unit {0})
+checkBy N n w rs = let nodes : Outcome (Unit {0}) = firstFault n rs in cond (inRange N n w) nodes (refused 21 0)
+
 -- the rules for the nodes, in their order
 abbrev pub rules : ℕ → ℕ → List ℕ → List (ℕ × (ℕ → Bool))
 rules N n w = (22, malformed N w) ∷ (23, parentless w n) ∷ (24, undecomposable w) ∷ (25, unreduced w) ∷ []
 
 -- the check of a table of n nodes over N variables
 unfoldable pub check : ℕ → ℕ → List ℕ → Outcome (Unit {0})
-check N n w = let nodes : Outcome (Unit {0}) = firstFault n (rules N n w) in cond (inRange N n w) nodes (refused 21 0)
+check N n w = checkBy N n w (rules N n w)
 
 -- neither 21 nor 22 ("well-formed")
 unfoldable pub wellFormedTable : ℕ → ℕ → List ℕ → Bool

@@ -1,4 +1,4 @@
--- The implicant test of a term, node by node.
+-- The implicant test of a term, node by node. No public contract rests on these.
 use Prim.Native.Nat.{ℕ}
 use mathlib.Core.Bool.{Bool, true, false, _&&_, cond}
 use mathlib.Core.List.{List}

@@ -1,4 +1,4 @@
--- The models of a function under a term.
+-- The models of a function under a term. No public contract rests on these.
 use Prim.Native.Nat.{ℕ, _*_, _^_}
 use mathlib.Core.Path.{_≡_}
 use mathlib.Core.Bool.{Bool, _&&_}

@@ -1,4 +1,4 @@
--- What the inner functions take for granted of a table and of an array.
+-- What the inner functions take for granted of a table and of an array. No public contract rests on these.
 use Prim.Native.Nat.{ℕ, _*_, _<_, _≤_}
 use mathlib.Core.Path.{_≡_}
 use mathlib.Core.Bool.{not}
@@ -8,7 +8,7 @@ use lib.ListN.{length, getD}
 use Rattle.circuits.specs.Check.{malformed}
 use Rattle.circuits.specs.Node.{nodeWords}
 
--- a table that meets neither 21 nor 22
+-- what the passes need of a table that is refused with neither 21 nor 22
 pub record Sound (N n : ℕ) (w : List ℕ) : Type 0 where
   pub narrow : N ≤ 40
   pub first : 1 ≤ n

@@ -19,7 +19,7 @@ use Rattle.masks.proofs.Operators.{disjoint-i}
 use Rattle.masks.proofs.Tests.{or-l, or-r, is-true, along, same?}
 use Rattle.terms.specs.Lists.{any}
 use Rattle.terms.proofs.Sorted.{any-e}
-use Rattle.circuits.specs.Check.{inRange, malformed, parentless, nodeMeets, undecomposable, isFalse, nodeDead, unreduced}
+use Rattle.circuits.specs.Check.{inRange, malformed, parentless, nodeMeets, undecomposable, isFalse, nodeUnreduced, unreduced}
 use Rattle.circuits.specs.Check.{firstFault, rules, check}
 use Rattle.circuits.specs.Function.{support}
 use Rattle.circuits.specs.Gate.{gateNode}
@@ -30,7 +30,8 @@ use Rattle.circuits.specs.declared.Gate.the-variants.{Constant, Literal, Decisi
 use Rattle.circuits.proofs.BottomUp.{branch-mem}
 use Rattle.circuits.proofs.Tables.{children-below}
 use Rattle.passes.specs.Tables.{Holds, Sound}
-use Rattle.queries.specs.Children.{hasChild, isChild, ChildrenBelow, Marked}
+use Rattle.circuits.specs.Check.{hasChild, isChild}
+use Rattle.queries.specs.Children.{ChildrenBelow, Marked}
 use Rattle.passes.proofs.Readable.{range-e, node-is, Read}
 
 -- ---- 23: the marks of the children
@@ -141,9 +142,9 @@ module _ {n : ℕ} {w : List ℕ} {i : ℕ} {g h : Gate} (r : Read n w i g) (d :
       disjoint-two (getD v a 0) (getD v b 0) ∙ ap (λ (x : Gate). nodeMeets (λ c. getD v c 0) (gateNode x)) (sym e)
       ∙ meets-from v held
 
-  pub dead-is : nodeDead (λ c. isFalse (nodeAt w c)) (gateNode h) ≡ unreduced w i
+  pub dead-is : nodeUnreduced (λ c. isFalse (nodeAt w c)) (gateNode h) ≡ unreduced w i
   unfolding unreduced
-  dead-is = ap (nodeDead (λ c. isFalse (nodeAt w c))) (sym (node-is r d))
+  dead-is = ap (nodeUnreduced (λ c. isFalse (nodeAt w c))) (sym (node-is r d))
 
 -- ---- the rules in turn
 module _ (n k : ℕ) (p : ℕ → Bool) (rs : List (ℕ × (ℕ → Bool))) (i : ℕ) (e : i ≡ least n p) where

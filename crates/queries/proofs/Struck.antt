@@ -1,5 +1,4 @@
 -- Striking down: what is left of a satisfying assignment is a prime implicant that agrees with it.
--- the literals of the first k variables
 use Prim.Native.Nat.{ℕ, zero, suc, _^_, _<_, _≤_}
 use mathlib.Core.Path.{_≡_, sym, subst}
 use mathlib.Core.Bool.{Bool}

@@ -1,22 +1,13 @@
--- What the marks of the children say.
+-- What the marks of the children say. No public contract rests on these.
 use Prim.Native.Nat.{ℕ, _<_}
 use mathlib.Core.Path.{_≡_}
 use mathlib.Core.Bool.{Bool, false, _||_}
 use mathlib.Core.List.{List}
-use lib.Dec.{T, eqb}
+use lib.Dec.{T}
 use lib.ListN.{length, getD}
-use Rattle.masks.specs.Numbers.{some}
-use Rattle.terms.specs.Lists.{any}
-use Rattle.circuits.specs.Node.{nodeAt, children, Node}
+use Rattle.circuits.specs.Check.{hasChild}
+use Rattle.circuits.specs.Node.{Node}
 use Rattle.passes.specs.Tables.{Holds}
-
--- the node has the child c
-abbrev pub hasChild : ℕ → Node → Bool
-hasChild c y = any (eqb c) (children y)
-
--- some node below n has the child c
-abbrev pub isChild : List ℕ → ℕ → ℕ → Bool
-isChild w n c = some n (λ j. hasChild c (nodeAt w j))
 
 -- the node's children stand below n
 abbrev pub ChildrenBelow : ℕ → Node → Type 0

@@ -9,7 +9,8 @@ ghost use Rattle.circuits.specs.Gate.{gateNode};
 ghost use Rattle.circuits.specs.Function.{support};
 ghost use Rattle.circuits.specs.Check.{parentless, undecomposable, unreduced, isFalse};
 ghost use Rattle.passes.specs.Tables.{Readable, Holds};
-ghost use Rattle.queries.specs.Children.{isChild, ChildrenBelow, Marked};
+ghost use Rattle.circuits.specs.Check.{isChild};
+ghost use Rattle.queries.specs.Children.{ChildrenBelow, Marked};
 use circuits::Gate;
 
 // Marks the children of a node.

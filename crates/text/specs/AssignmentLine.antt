@@ -6,6 +6,7 @@ use mathlib.Core.List.{List}
 use lib.Dec.{ltb, leb, eqb}
 use lib.ListN.{length}
 use Rattle.masks.specs.Mask.{put}
+use Rattle.circuits.specs.Check.{variablesFit}
 use Rattle.circuits.specs.Outcome.{Outcome, answered, refused}
 use Rattle.text.specs.Ascii.{ascii}
 use Rattle.text.specs.Read.{end, byteAt, numberAt, matchAt}
@@ -55,4 +56,4 @@ stowThen s N (Past p) = membersAt (length s) s N 0 p 0
 
 -- reading the line s over N variables; no line has more variables than bytes
 unfoldable pub readAssignment : List ℕ → ℕ → Outcome ℕ
-readAssignment s N = cond (leb 1 N && leb N 40) (stowThen s N (matchAt s 0 (ascii "(stow"))) (refused 21 0)
+readAssignment s N = cond (variablesFit N) (stowThen s N (matchAt s 0 (ascii "(stow"))) (refused 21 0)

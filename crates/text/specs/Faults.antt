@@ -1,9 +1,10 @@
 -- The faults of a syntax tree: numbers 12 to 15 with their places, in the order of their bytes.
 use Prim.Native.Nat.{ℕ, zero, suc, _+_, _-_}
-use mathlib.Core.Bool.{Bool, _&&_, cond}
+use mathlib.Core.Bool.{Bool, cond}
 use mathlib.Core.List.{List, [], _∷_, _++_}
-use lib.Dec.{ltb, leb}
+use lib.Dec.{ltb}
 use lib.ListN.{length}
+use Rattle.circuits.specs.Check.{variablesFit}
 use Rattle.text.specs.Syntax.{decimal, printForm, Tree, Form, constantForm, literalForm, decisionForm, conjunctionForm}
 use Rattle.text.specs.Syntax.{lineForm}
 
@@ -54,4 +55,4 @@ linesFaults N room k at n (f ∷ fs) =
 unfoldable pub treeFaults : ℕ → Tree → List (ℕ × ℕ)
 treeFaults room t =
     let p : ℕ = 9 + length (decimal (t .variables)) in
-    unless (leb 1 (t .variables) && leb (t .variables) 40) 12 p ++ linesFaults (t .variables) room 0 (p + 2) 0 (t .lines)
+    unless (variablesFit (t .variables)) 12 p ++ linesFaults (t .variables) room 0 (p + 2) 0 (t .lines)

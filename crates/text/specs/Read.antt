@@ -215,7 +215,7 @@ lineEnd next s N w (Made p m a) =
     (cond (eqb (byteAt s (p + 1)) end) (answers (answered (N, m)) w) (next (p + 1) m a w))
     (answers (refused 11 p) w)
 
--- how many lines there can be: each makes a node, and there are at most 1,024
+-- how many lines are looked at: each makes a node, and of 1,025 nodes the last has no room
 abbrev pub maxLines : ℕ
 maxLines = 1025
 

@@ -5,7 +5,7 @@ use mathlib.Core.List.{List, [], _∷_, _++_, map}
 use lib.Dec.{ltb}
 use lib.ListN.{length, getD, drop}
 use Rattle.masks.specs.Numbers.{below}
-use Rattle.circuits.specs.Check.{inRange, malformed, firstFault}
+use Rattle.circuits.specs.Check.{malformed, checkBy}
 use Rattle.circuits.specs.Node.{nodeAt, Node, constant, literal, decision, conjunction, unknown}
 use Rattle.circuits.specs.Outcome.{Outcome, answered, refused}
 use Rattle.text.specs.Syntax.{print, Tree, Form, constantForm, literalForm, decisionForm, conjunctionForm, lineForm}
@@ -43,7 +43,7 @@ writeChecked text sink (refused k i) = record { answer = refused k i; sink = sin
 
 -- 21, then 22 with its lowest node
 unfoldable pub checkWords : ℕ → ℕ → List ℕ → Outcome (Unit {0})
-checkWords N n w = cond (inRange N n w) (firstFault n ((22, malformed N w) ∷ [])) (refused 21 0)
+checkWords N n w = checkBy N n w ((22, malformed N w) ∷ [])
 
 -- writing the table into a sink
 unfoldable pub writeTable : ℕ → ℕ → List ℕ → List ℕ → WriteOut

@@ -1,5 +1,5 @@
 // The reading of circuit text.
-pub mod form;
-pub mod held;
-pub mod lines;
+mod form;
+mod held;
+mod lines;
 pub mod reader;

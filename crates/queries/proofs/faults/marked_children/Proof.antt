@@ -8,7 +8,7 @@ use lib.ListN.{length, length-replicate}
 use borrow.Author.Needs.{needs}
 use Rattle.passes.specs.Tables.{Holds}
 use Rattle.passes.proofs.Readable.{readable-words, Read}
-use Rattle.queries.specs.Children.{isChild}
+use Rattle.circuits.specs.Check.{isChild}
 use Rattle.queries.proofs.Rules.{marks-start, marks-next, gate-children}
 use Rattle.queries.proofs.faults.marked_children.Statement.{statement}
 use Rattle.queries.proofs.faults.marked_children.Tie as tie

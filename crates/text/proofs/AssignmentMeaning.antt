@@ -92,7 +92,7 @@ module _ (s : List ℕ) where
           (subst IsAssignment (sym (append-assoc (take at s) (41 ∷ []) (10 ∷ []))) line))
       by (inl e) (inl z) =
           rw (eq-eqb (byteAt s (at + 1)) 10 e, eq-eqb (byteAt s (at + 1 + 1)) 256 z)
-          (λ bytes. subst IsAssignment (sym (two e) ∙ take-all (at + 1 + 1) s (past-end s s (at + 1 + 1) bytes z)) line)
+          (λ bytes. subst IsAssignment (sym (two e) ∙ take-all (at + 1 + 1) s (past-end s (at + 1 + 1) bytes z)) line)
       by (inl e) (inr z) =
           rw (eq-eqb (byteAt s (at + 1)) 10 e, ne-eqb (byteAt s (at + 1 + 1)) 256 z)
           (viable (at + 1 + 1) (take at s ++ closeText) [] (two e) (subst IsAssignment (sym (append-nil (take at s ++ closeText))) line))

@@ -14,6 +14,7 @@ use Rattle.text.specs.Syntax.{printForm, compileForm, Compiled, Form, co
 use Rattle.text.specs.Syntax.{conjunctionForm, lineForm}
 use Rattle.text.specs.declared.answer.Step.the-variants.{Made}
 
+-- a run of stores after another
 pub sets-append : (l : List ℕ) (i : ℕ) (xs ys : List ℕ) → sets l i (xs ++ ys) ≡ sets (sets l i xs) (i + length xs) ys
 sets-append l i [] ys = ap (λ (k : ℕ). sets l k ys) (sym (add-zero i))
 sets-append l i (x ∷ xs) ys =

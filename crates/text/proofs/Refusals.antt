@@ -127,7 +127,7 @@ printed-inside s q k t rest bytes l e = by (decLe q (length s))
         ∙ getD-take q (marked s k) i 256 (omega arith) ∙ marked-same s k i i (omega arith)
         ∙ List·getD-eq-default s 256 (omega arith) in
         let j : i < length t = omega (arith, ap length e, length-append (take q (marked s k)) rest) in
-        absurd (omega (arith, past-end s t i bytes c, j))
+        absurd (omega (arith, past-end t i bytes c, j))
 
 module _ (s : List ℕ) (m k p : ℕ) (h : readBody s m .answer ≡ refused k p) where
   said : Said s (refused k p)

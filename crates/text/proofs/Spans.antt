@@ -37,6 +37,12 @@ abbrev pub Bytes : List ℕ → Type 0
 Bytes [] = Unit {0}
 Bytes (b ∷ w) = (b < 256) × Bytes w
 
+-- where no byte is read, the text has ended
+pub past-end : (l : List ℕ) (i : ℕ) → Bytes l → getD l i 256 ≡ 256 → length l ≤ i
+past-end [] i b e = omega arith
+past-end (c ∷ l) zero b e = absurd (omega (arith, b .0, e))
+past-end (c ∷ l) (suc i) b e = let r = past-end l i (b .1) e in omega arith
+
 module _ (s : List ℕ) where
   -- x stands from place at up to place p
   abbrev pub Span : ℕ → ℕ → List ℕ → Type 0
@@ -52,11 +58,6 @@ module _ (s : List ℕ) where
   one-byte at b l e =
       let i = inside s at (omega (arith, e)) in
       ap (λ (k : ℕ). take k s) (add-one at) ∙ take-suc s at 256 i ∙ ap (λ (c : ℕ). take at s ++ (c ∷ [])) e
-
-  pub past-end : (l : List ℕ) (i : ℕ) → Bytes l → getD l i 256 ≡ 256 → length l ≤ i
-  past-end [] i b e = omega arith
-  past-end (c ∷ l) zero b e = absurd (omega (arith, b .0, e))
-  past-end (c ∷ l) (suc i) b e = let r = past-end l i (b .1) e in omega arith
 
   -- ---- words and numbers
   abbrev pub MatchSaid : List ℕ → ℕ → Matched → Type 0

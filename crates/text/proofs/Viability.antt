@@ -69,7 +69,7 @@ module _ (s : List ℕ) where
       by (inr e) z = rw (ne-eqb (byteAt s p) 10 e) (viable p (take at s ++ x) (10 ∷ []) sx ended-here)
       by (inl e) (inl z) =
           rw (eq-eqb (byteAt s p) 10 e, eq-eqb (byteAt s (p + 1)) 256 z)
-          (λ b. subst IsText (sym (line e) ∙ take-all (p + 1) s (past-end s s (p + 1) b z)) ended-here)
+          (λ b. subst IsText (sym (line e) ∙ take-all (p + 1) s (past-end s (p + 1) b z)) ended-here)
       by (inl e) (inr z) = rw (eq-eqb (byteAt s p) 10 e, ne-eqb (byteAt s (p + 1)) 256 z) (rec (p + 1) m a w (go-on e) (k .0) (k .1))
 
   lines-said : (more N room : ℕ) (lines : List ℕ) (k at n : ℕ) (w : List ℕ) → room ≤ 1024 → k + more ≡ 1025 → k ≤ n → n ≤ room

@@ -146,10 +146,11 @@ loop-again c =
     let p = c .before .before .before .before .before .before .before .before in
     let a = turn p in
     let x = start a .args in
-    let n : ℕ = c .before .c .given .0 .0 in (
+    let n : ℕ = c .before .c .given .0 .0 in
+    let added = told p (Count n) (c .before .c .given .1) in (
       turn-next (making a) (x .ap .now) (x .an .now) (start a .pre .1 .0)
           (allMade (making a) (x .ap .now) (x .an .now) (first a) (x .start)) (first a) (now a) (evens a) (a .loop .count) (a .loop .k)
-          (a .loop .inv .0) (p .before .before .before .before .before .loop-test .taken) (then p) n (told p (Count n) (c .before .c .given .1)),
+          (a .loop .inv .0) (p .before .before .before .before .before .loop-test .taken) (then p) n added,
       p .join-with .kept .1 .1 .1 .1 .1 .1 .1 .1 .1 .0 ∙ a .loop .inv .1,
     )
 

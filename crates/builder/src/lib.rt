@@ -374,7 +374,8 @@ pub fn decision(
     join_all(positives, negatives, d, true, ap, an, bp, bn)
 }
 
-// Makes the terms of a conjunction from those of its children.
+// Makes the terms of a conjunction from those of its children. For each term of b all of a: where the variables of a are the lower ones,
+// as in texts that name them in turn, the joins come in order.
 pub fn conjunction(
     positives: &mut [u64],
     negatives: &mut [u64],
@@ -385,9 +386,9 @@ pub fn conjunction(
 ) -> Kept
     requires { ⌜ length (now negatives) ≡ length (now positives) ⌝ }
     requires { ⌜ (length (now an) ≡ length (now ap)) × (length (now bn) ≡ length (now bp)) ⌝ }
-    ensures { λ r. ⌜ Added (madeJoins false (termsOf (now (ap .entry)) (now (an .entry))) (termsOf (now (bp .entry)) (now (bn .entry))))
+    ensures { λ r. ⌜ Added (madeJoins false (termsOf (now (bp .entry)) (now (bn .entry))) (termsOf (now (ap .entry)) (now (an .entry))))
         (bySign (now (positives .entry)) (now (negatives .entry))) 0
         (bySign (now (positives .exit)) (now (negatives .exit))) r ⌝ }
 {
-    join_all(positives, negatives, 0, false, ap, an, bp, bn)
+    join_all(positives, negatives, 0, false, bp, bn, ap, an)
 }

@@ -1,7 +1,8 @@
 -- For a node of an accepted table, what is made of its children's prime implicants is its prime implicants.
 use Prim.Native.Nat.{ℕ, _<_, _≤_, zero-le}
 use mathlib.Core.Path.{_≡_, refl, sym, ap, ap₂, subst, _∙_}
-use mathlib.Core.Bool.{Bool, true, false, and-true}
+use mathlib.Core.Bool.{Bool, true, false, and-true, and-comm}
+use mathlib.Core.Logic.{_⊎_, inl, inr, ⊎-elim}
 use mathlib.Core.List.{List, [], _∷_, List·Memᴰ·head, List·Memᴰ·tail}
 use native.Mathlib.Omega.{arith}
 use Rattle.masks.specs.Mask.{width}
@@ -10,6 +11,7 @@ use Rattle.terms.specs.declared.Term.{Term}
 use Rattle.terms.proofs.Built.{joins, joins-lists, decision-with}
 use Rattle.terms.proofs.Conjunctions.{conj}
 use Rattle.terms.proofs.Decisions.{choice}
+use Rattle.terms.proofs.Implicants.{Free}
 use Rattle.terms.proofs.Listed.{primes-lists, Lists}
 use Rattle.circuits.specs.Function.{function}
 use Rattle.circuits.specs.Node.{kind, node, word, nodeAt, Kind, constantKind, literalKind, decisionKind, conjunctionKind}
@@ -57,15 +59,20 @@ module _ (N n : ℕ) (w : List ℕ) (acc : Accepted N n w) where
         (madeJoins true (rows a) (rows b)) (listed a) (listed b) made)
         ∙ ap (primes N) (sym (function-is N n w acc i (decision x a b) l e))
 
-    conjunction-exact : (a b : ℕ) → nodeAt w i ≡ conjunction (a ∷ b ∷ []) → insertAll (madeJoins false (rows a) (rows b)) [] ≡ rows i
+    conjunction-exact : (a b : ℕ) → nodeAt w i ≡ conjunction (a ∷ b ∷ []) → insertAll (madeJoins false (rows b) (rows a)) [] ≡ rows i
     conjunction-exact a b e =
-        let one : allOf w (b ∷ []) ≡ function w b = (λ j s. and-true (function w b s) j) in
-        ap (λ (k : List Term). insertAll k []) (all-joins (rows a) (rows b))
-        ∙ inserted-primes N (allOf w (a ∷ b ∷ [])) (joins (rows a) (rows b))
-        (joins-lists N wide (function w a) (allOf w (b ∷ [])) (rows a) (rows b) (listed a)
-        (subst (λ (g : ℕ → Bool). Lists N g (rows b)) (sym one) (listed b))
+        let f : ℕ → Bool = function w a in
+        let g : ℕ → Bool = allOf w (b ∷ []) in
+        let one : g ≡ function w b = (λ j s. and-true (function w b s) j) in
+        let turned : conj N g f ≡ conj N f g = (λ j s. and-comm (g s) (f s) j) in
+        let apart : (x : ℕ) → x < N → Free N g x ⊎ Free N f x =
+        λ x k. ⊎-elim inr inl
         (all-apart N n w acc a (b ∷ []) (conjunction-disjoint N n w acc i (a ∷ b ∷ []) l e)
-        (conjunction-below N n w acc i (a ∷ b ∷ []) l e)))
+        (conjunction-below N n w acc i (a ∷ b ∷ []) l e) x k) in
+        ap (λ (k : List Term). insertAll k []) (all-joins (rows b) (rows a))
+        ∙ inserted-primes N (allOf w (a ∷ b ∷ [])) (joins (rows b) (rows a))
+        (subst (λ (h : ℕ → Bool). Lists N h (joins (rows b) (rows a))) turned
+        (joins-lists N wide g f (rows b) (rows a) (subst (λ (h : ℕ → Bool). Lists N h (rows b)) (sym one) (listed b)) (listed a) apart))
         ∙ ap (primes N) (sym (function-is N n w acc i (conjunction (a ∷ b ∷ [])) l e))
 
     -- v gives the terms of the nodes below i
@@ -79,7 +86,7 @@ module _ (N n : ℕ) (w : List ℕ) (acc : Accepted N n w) where
           ap₂ (λ (p q : List Term). insertAll (madeDecision x p q) []) (h a (f .1)) (h b (f .2)) ∙ decision-exact x a b e
       by-kind conjunctionKind x a b e =
           let f : Fits N i (conjunction (a ∷ b ∷ [])) = node-fits N n w acc i (conjunction (a ∷ b ∷ [])) l e in
-          ap₂ (λ (p q : List Term). insertAll (madeJoins false p q) []) (h a (f a (List·Memᴰ·head refl)))
+          ap₂ (λ (p q : List Term). insertAll (madeJoins false q p) []) (h a (f a (List·Memᴰ·head refl)))
           (h b (f b (List·Memᴰ·tail (List·Memᴰ·head refl))))
           ∙ conjunction-exact a b e
       by-kind unknownKind x a b e = absurd (node-fits N n w acc i unknown l e)

@@ -25,7 +25,7 @@ abbrev pub nodeMade : Node → List Term → List Term → List Term
 nodeMade (constant b) l k = cond b (empty ∷ []) []
 nodeMade (literal b x) l k = extend empty x b ∷ []
 nodeMade (decision x a b) l k = insertAll (madeDecision x l k) []
-nodeMade (conjunction cs) l k = insertAll (madeJoins false l k) []
+nodeMade (conjunction cs) l k = insertAll (madeJoins false k l) []
 nodeMade unknown l k = []
 
 -- the count terms that stand from `at` on

@@ -61,6 +61,9 @@ struct Part<'a> {
 impl Part<'_> {
     /// The place of t in the order, or none where it is there.
     fn place(&self, t: Term) -> Option<usize> {
+        if self.count > 0 && key(self.term(self.count - 1)) < key(t) {
+            return Some(self.count);
+        }
         let (mut low, mut high) = (0, self.count);
         while low < high {
             let middle = low + (high - low) / 2;
@@ -182,10 +185,10 @@ fn decision(part: &mut Part, x: u32, a: Terms, b: Terms) -> Result<(), Full> {
 }
 
 fn conjunction(part: &mut Part, a: Terms, b: Terms) -> Result<(), Full> {
-    for t in a.iter() {
-        for u in b.iter() {
-            if !conflict(t, u) {
-                part.insert(join(t, u))?;
+    for u in b.iter() {
+        for t in a.iter() {
+            if !conflict(u, t) {
+                part.insert(join(u, t))?;
             }
         }
     }

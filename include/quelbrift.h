@@ -137,8 +137,9 @@ quelbrift_answer quelbrift_reduce(const uint32_t *words, size_t words_length, ui
  * Done: no value. No count is above the last node's.
  * Refuses: 21 to 25, then 41; all buffers are unchanged then. Then 42, exactly where the circuit has more clearances than the
  * capacity; the first nodes * capacity entries of both row buffers and the first nodes counts are 0 then, later ones unchanged.
- * Time: usual circuits take milliseconds, but a pick over two children with thousands of clearances each can take seconds, and a
- * table of hundreds of such nodes minutes (docs/PERFORMANCE.md). A call can not be interrupted.
+ * Time: the families measured take milliseconds, but it grows with up to the third power of the capacity at each pick. A table made to
+ * be slow took 342 s; the bound at capacity 4,096 is some 40 s a pick, so hours a table (docs/PERFORMANCE.md). A call can not be
+ * interrupted; a smaller capacity bounds it.
  */
 quelbrift_answer quelbrift_list(const uint32_t *words, size_t words_length, uint32_t variables, uint32_t nodes, uint32_t capacity,
                                 uint64_t *positives, size_t positives_length, uint64_t *negatives, size_t negatives_length,

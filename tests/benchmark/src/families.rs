@@ -244,18 +244,20 @@ pub fn more_on_one_side(k: usize, m: u32, more_high: bool) -> Family {
 }
 
 /// A decision whose low side has p = C(m, k) terms and whose high side 2 q = 2 C(o, l) and two last ones. Of two joins in turn, the one
-/// holds the join with the one last term, the other that with the other.
-pub fn alternating(k: usize, m: u32, l: usize, o: u32) -> Family {
+/// holds the join with the one last term, the other that with the other. It stands 2^levels times below a tree of decisions.
+pub fn alternating(k: usize, m: u32, l: usize, o: u32, levels: u32) -> Family {
     let size = l as u32;
-    let mut c = Circuit::new(3 + m + o + size);
+    let free = 3 + m + o + size;
+    let mut c = Circuit::new(free + levels);
     let u = range(3 + m + o, size);
     let (all_u, g) = (every(&mut c, &u), c.at_least(k, &range(3, m)));
     let low = c.conjunction(all_u, g);
     let (one_of_two, h) = (c.at_least(1, &[1, 2]), c.at_least(l, &range(3 + m, o)));
     let rest = every_or(&mut c, &u, h);
     let high = c.conjunction(one_of_two, rest);
-    c.decision(0, low, high);
-    named(format!("alternating, at least {k} of {m} and {l} of {o}"), c)
+    let copies = (0..1 << levels).map(|_| c.fresh_decision(0, low, high)).collect();
+    tree(&mut c, copies, free);
+    named(format!("{} times alternating, at least {k} of {m} and {l} of {o}", 1 << levels), c)
 }
 
 /// The families of the table.
@@ -311,7 +313,8 @@ pub fn worst() -> Vec<Family> {
         more_on_one_side(5, 11, true),
         more_on_one_side(6, 13, false),
         more_on_one_side(6, 13, true),
-        alternating(4, 10, 4, 11),
-        alternating(4, 12, 5, 13),
+        alternating(4, 10, 4, 11, 0),
+        alternating(4, 12, 5, 13, 0),
+        alternating(4, 12, 5, 13, 4),
     ]
 }

@@ -57,14 +57,14 @@ enum {
     /* of a sink, with the needed length */
     QUELBRIFT_SINK = 16,
     /* of a table, with the lowest node */
-    QUELBRIFT_TABLE = 21,          /* variables, nodes or words out of range; node 0 */
+    QUELBRIFT_SIZES = 21,          /* variables, nodes or words out of range; node 0 */
     QUELBRIFT_MALFORMED = 22,      /* a kind above 5, a variable or child out of range, an unused word that is not 0 */
     QUELBRIFT_PARENTLESS = 23,     /* a node, not the last, that is nobody's child */
     QUELBRIFT_UNDECOMPOSABLE = 24, /* a both with a variable under both children, or a pick with its own under a child */
     QUELBRIFT_UNREDUCED = 25,      /* a both with a false child, or a pick with two */
     /* of the question; the place is 0 */
     QUELBRIFT_ASSIGNMENT = 31,  /* a bit at the number of variables or above */
-    QUELBRIFT_TERM = 32,        /* such a bit, or one in both masks */
+    QUELBRIFT_NOT_TERM = 32,    /* such a bit, or one in both masks */
     QUELBRIFT_UNSATISFIED = 33, /* the assignment is not allowed */
     QUELBRIFT_BUFFERS = 41,     /* a capacity above 4,096, a row buffer below nodes * capacity, or counts below nodes */
     QUELBRIFT_CAPACITY = 42,    /* more prime implicants than the capacity */

@@ -59,12 +59,12 @@ static const char worked_lines[] =
     "(circuit 3)\n(no 1)\n(yes 2)\n(true)\n(pick 1 (line 1) (line 2))\n(pick 0 (line 0) (line 3))\n";
 
 static const table refused[] = {
-    {0, 1, 4, {1}, QUELBRIFT_TABLE, 0},
-    {41, 1, 4, {1}, QUELBRIFT_TABLE, 0},
-    {1, 0, 4, {1}, QUELBRIFT_TABLE, 0},
-    {1, 1025, 20, {1}, QUELBRIFT_TABLE, 0},
-    {1, UINT32_MAX, 20, {1}, QUELBRIFT_TABLE, 0},
-    {1, 2, 7, {1}, QUELBRIFT_TABLE, 0},
+    {0, 1, 4, {1}, QUELBRIFT_SIZES, 0},
+    {41, 1, 4, {1}, QUELBRIFT_SIZES, 0},
+    {1, 0, 4, {1}, QUELBRIFT_SIZES, 0},
+    {1, 1025, 20, {1}, QUELBRIFT_SIZES, 0},
+    {1, UINT32_MAX, 20, {1}, QUELBRIFT_SIZES, 0},
+    {1, 2, 7, {1}, QUELBRIFT_SIZES, 0},
     {1, 1, 4, {6}, QUELBRIFT_MALFORMED, 0},
     {1, 2, 8, {1, 0, 0, 0, 2, 1}, QUELBRIFT_MALFORMED, 1},
     {1, 2, 8, {1, 0, 0, 0, 5, 0, 0, 1}, QUELBRIFT_MALFORMED, 1},
@@ -227,9 +227,9 @@ static void check_implies(void)
     EXPECT_DONE(quelbrift_implies(TABLE(&worked), 5, 2), 1, 0);
     EXPECT_DONE(quelbrift_implies(TABLE(&worked), 4, 0), 0, 0);
     EXPECT_DONE(quelbrift_implies(TABLE(&worked), 0, 0), 0, 0);
-    EXPECT_REFUSED(quelbrift_implies(TABLE(&worked), 8, 0), QUELBRIFT_TERM, 0);
-    EXPECT_REFUSED(quelbrift_implies(TABLE(&worked), 0, 8), QUELBRIFT_TERM, 0);
-    EXPECT_REFUSED(quelbrift_implies(TABLE(&worked), 1, 1), QUELBRIFT_TERM, 0);
+    EXPECT_REFUSED(quelbrift_implies(TABLE(&worked), 8, 0), QUELBRIFT_NOT_TERM, 0);
+    EXPECT_REFUSED(quelbrift_implies(TABLE(&worked), 0, 8), QUELBRIFT_NOT_TERM, 0);
+    EXPECT_REFUSED(quelbrift_implies(TABLE(&worked), 1, 1), QUELBRIFT_NOT_TERM, 0);
     FOR_EACH_REFUSED(row) {
         EXPECT_REFUSED(quelbrift_implies(TABLE(row), UINT64_MAX, UINT64_MAX), row->number, row->place);
     }
@@ -240,9 +240,9 @@ static void check_is_prime(void)
     EXPECT_DONE(quelbrift_is_prime(TABLE(&worked), 4, 2), 1, 0);
     EXPECT_DONE(quelbrift_is_prime(TABLE(&worked), 5, 2), 0, 0);
     EXPECT_DONE(quelbrift_is_prime(TABLE(&worked), 4, 0), 0, 0);
-    EXPECT_REFUSED(quelbrift_is_prime(TABLE(&worked), 8, 0), QUELBRIFT_TERM, 0);
-    EXPECT_REFUSED(quelbrift_is_prime(TABLE(&worked), 0, 8), QUELBRIFT_TERM, 0);
-    EXPECT_REFUSED(quelbrift_is_prime(TABLE(&worked), 1, 1), QUELBRIFT_TERM, 0);
+    EXPECT_REFUSED(quelbrift_is_prime(TABLE(&worked), 8, 0), QUELBRIFT_NOT_TERM, 0);
+    EXPECT_REFUSED(quelbrift_is_prime(TABLE(&worked), 0, 8), QUELBRIFT_NOT_TERM, 0);
+    EXPECT_REFUSED(quelbrift_is_prime(TABLE(&worked), 1, 1), QUELBRIFT_NOT_TERM, 0);
     FOR_EACH_REFUSED(row) {
         EXPECT_REFUSED(quelbrift_is_prime(TABLE(row), UINT64_MAX, UINT64_MAX), row->number, row->place);
     }
@@ -346,8 +346,8 @@ static void check_read_assignment(void)
         {"(stow)\n", 1, {QUELBRIFT_DONE, 0, 0, 0}},
         {"(stow 0 2)\n", 3, {QUELBRIFT_DONE, 0, 5, 0}},
         {"(stow 39)\n", 40, {QUELBRIFT_DONE, 0, (uint64_t)1 << 39, 0}},
-        {"(stow)\n", 0, {QUELBRIFT_TABLE, 0, 0, 0}},
-        {"(stow)\n", 41, {QUELBRIFT_TABLE, 0, 0, 0}},
+        {"(stow)\n", 0, {QUELBRIFT_SIZES, 0, 0, 0}},
+        {"(stow)\n", 41, {QUELBRIFT_SIZES, 0, 0, 0}},
         {"(stow)", 3, {QUELBRIFT_LINE_SHAPE, 6, 0, 0}},
         {"(stow 0 )\n", 3, {QUELBRIFT_LINE_SHAPE, 8, 0, 0}},
         {"(stow)\n\n", 3, {QUELBRIFT_LINE_SHAPE, 7, 0, 0}},

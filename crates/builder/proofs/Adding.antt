@@ -7,12 +7,12 @@ use native.Mathlib.Nat.{le-refl, le-trans, lt-of-lt-of-le}
 use native.Mathlib.Omega.{arith}
 use lib.ListN.{length, take, drop, length-append, length-drop}
 use lib.Seq.{take-at, drop-at, drop-drop}
-use Rattle.terms.specs.Lists.{insert}
+use Rattle.terms.specs.Lists.{insert, Rising}
 use Rattle.terms.specs.Order.{before}
+use Rattle.terms.specs.Term.{termsOf}
 use Rattle.terms.specs.declared.Term.{Term}
 use Rattle.terms.proofs.Listed.{before-irrefl, before-trans}
-use Rattle.terms.proofs.Sorted.{Rising, insert-rising}
-use Rattle.lists.specs.Scans.{termsOf}
+use Rattle.terms.proofs.Sorted.{insert-rising}
 use Rattle.insertion.specs.Filled.{held, masksOf, keptOf, Filled}
 use Rattle.insertion.specs.declared.Kept.{Kept}
 use Rattle.insertion.specs.declared.Kept.the-variants.{Count, Full}

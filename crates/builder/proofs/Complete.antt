@@ -8,21 +8,21 @@ use mathlib.Core.List.{List·Memᴰ·append-cases, Memᴰ·append-left, Memᴰ·
 use lib.Dec.{T}
 use Rattle.masks.specs.Mask.{width}
 use Rattle.masks.proofs.Tests.{along}
+use Rattle.terms.specs.Joins.{joinsWith, holdsOne}
 use Rattle.terms.specs.Lists.{keep, insert}
 use Rattle.terms.specs.Order.{before}
-use Rattle.terms.specs.Prime.{primes}
+use Rattle.terms.specs.Prime.{primes, Implicant, Prime}
+use Rattle.terms.specs.Term.{without, join, conflict, IsTerm}
 use Rattle.terms.specs.declared.Term.{Term}
-use Rattle.terms.specs.Term.{without, join, conflict}
-use Rattle.terms.proofs.Built.{joins, joinsWith, holdsOne, holdsShorter, leastOf, joins-in, joins-out, conflict-free}
-use Rattle.terms.proofs.Built.{implicant-listed, least-lists, JoinOf}
+use Rattle.terms.proofs.Built.{joins, holdsShorter, leastOf, joins-in, joins-out, conflict-free, implicant-listed, least-lists, JoinOf}
 use Rattle.terms.proofs.Conjunctions.{conj, conj-i, conj-l}
-use Rattle.terms.proofs.Implicants.{Implicant, Prime, least-same}
+use Rattle.terms.proofs.Implicants.{least-same}
 use Rattle.terms.proofs.Listed.{before-irrefl, before-trans, before-total, primes-unique, Lists}
 use Rattle.terms.proofs.Sorted.{insert-out, insert-in, keep-out, keep-in, map-in}
-use Rattle.terms.proofs.Terms.{Inside, join-l, join-isTerm, IsTerm}
+use Rattle.terms.proofs.Terms.{Inside, join-l, join-isTerm}
 use Rattle.lists.proofs.Least.{Terms, shorter-joins}
-use Rattle.builder.proofs.Adding.{rises}
 use Rattle.builder.specs.Made.{insertAll, allowed, madeWith, madeEach, madeJoins}
+use Rattle.builder.proofs.Adding.{rises}
 
 -- ---- the members of terms inserted one after the other
 only-those : (l acc : List Term) (u : Term) → List·Memᴰ u (insertAll l acc) → List·Memᴰ u l ⊎ List·Memᴰ u acc

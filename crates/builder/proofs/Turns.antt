@@ -5,13 +5,12 @@ use mathlib.Core.Bool.{Bool, true, false, not, cond}
 use mathlib.Core.List.{List, [], _∷_, _++_, map}
 use native.Mathlib.Omega.{arith}
 use lib.ListN.{length, drop}
-use Rattle.terms.specs.Lists.{keep}
+use Rattle.terms.specs.Joins.{joinsWith, holdsOne, extended}
+use Rattle.terms.specs.Lists.{keep, Rising}
 use Rattle.terms.specs.Order.{before}
-use Rattle.terms.specs.Term.{extend, join, conflict}
+use Rattle.terms.specs.Term.{extend, join, conflict, termsOf}
 use Rattle.terms.specs.declared.Term.{Term}
-use Rattle.terms.proofs.Built.{joinsWith, holdsOne, extended}
-use Rattle.terms.proofs.Sorted.{Rising}
-use Rattle.lists.specs.Scans.{termsOf, termAt}
+use Rattle.lists.specs.Scans.{termAt}
 use Rattle.lists.proofs.Parts.{drop-terms, drop-end}
 use Rattle.insertion.specs.Filled.{held, Filled}
 use Rattle.insertion.specs.declared.Kept.the-variants.{Count, Full}

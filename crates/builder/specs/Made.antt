@@ -2,12 +2,11 @@
 use Prim.Native.Nat.{ℕ}
 use mathlib.Core.Bool.{Bool, true, false, _&&_, not, cond}
 use mathlib.Core.List.{List, [], _∷_, _++_}
+use Rattle.terms.specs.Joins.{joinsWith, extended}
 use Rattle.terms.specs.Lists.{any, keep, insert}
 use Rattle.terms.specs.Order.{before}
 use Rattle.terms.specs.Term.{inside}
 use Rattle.terms.specs.declared.Term.{Term}
--- the terms of a list joined with one term, and the terms of one side extended
-pub use Rattle.terms.proofs.Built.{joinsWith, extended}
 use Rattle.lists.specs.Scans.{shorterJoin}
 use Rattle.lists.specs.declared.Shorter.{Shorter}
 use Rattle.lists.specs.declared.Shorter.the-variants.{None, At}

@@ -4,13 +4,15 @@ ghost use mathlib.Core.Bool.{true, false};
 ghost use mathlib.Core.List.{[], _∷_};
 ghost use Prim.Native.Nat.{_≤_, _<_};
 ghost use lib.ListN.{length, getD};
-ghost use Rattle.terms.specs.Lists.{keep, insert};
+ghost use Rattle.terms.specs.Joins.{joinsWith, extended};
+ghost use Rattle.terms.specs.Lists.{keep, insert, Rising};
 ghost use Rattle.terms.specs.Order.{before};
-ghost use Rattle.terms.proofs.Sorted.{Rising};
-ghost use Rattle.lists.specs.Scans.{termsOf, termAt};
+ghost use Rattle.terms.specs.Term.{termsOf};
+ghost use Rattle.lists.specs.Scans.{termAt};
 ghost use Rattle.insertion.specs.Filled.{bySign, held};
-ghost use Rattle.builder.specs.Made.{joinsWith, extended, isNone, allowed, alone, madeWith, madeJoins, madeDecision, Added, keptBy};
+ghost use Rattle.builder.specs.Made.{isNone, allowed, alone, madeWith, madeJoins, madeDecision, Added, keptBy};
 use insertion::Kept;
+use lists::MAX_CAPACITY;
 use lists::Shorter;
 use terms::Term;
 
@@ -324,7 +326,7 @@ fn join_all(
         (bySign (now (positives .entry)) (now (negatives .entry))) start
         (bySign (now (positives .exit)) (now (negatives .exit))) r ⌝ }
 {
-    let mut partners = [0u16; 4096];
+    let mut partners = [0u16; MAX_CAPACITY as usize];
     let mut count = start;
     let mut k = 0;
     while k < ap.len() {

@@ -1,39 +1,22 @@
 -- What the check's acceptance says of a table.
 use Prim.Native.Nat.{ℕ, suc, _<_, _≤_}
-use mathlib.Core.Path.{_≡_, refl, sym, ap, subst}
+use mathlib.Core.Path.{_≡_, refl}
 use mathlib.Core.Bool.{Bool, true, false, not, cond}
 use mathlib.Core.Logic.{⊎-elim}
-use mathlib.Core.List.{List, [], _∷_, List·Memᴰ, List·Memᴰ·head, List·Memᴰ·tail, List·Memᴰ·not-nil, List·Memᴰ·cases-cons}
-use mathlib.Core.List.{Memᴰ·cast}
+use mathlib.Core.List.{List, List·Memᴰ, List·Memᴰ·head, List·Memᴰ·tail, Memᴰ·cast}
 use native.Mathlib.Omega.{arith}
-use lib.Dec.{T, T-not, eqb, ltb, eqb→eq, lt→ltb, leb→le, nltb→le}
+use lib.Dec.{T, T-not, eqb, ltb, eqb→eq, lt→ltb, leb→le}
 use Rattle.masks.specs.Mask.{width}
 use Rattle.masks.specs.Numbers.{some, least}
-use Rattle.masks.proofs.Numbers.{some-e, least-none}
-use Rattle.masks.proofs.Tests.{and-l, and-r, not-and, not-not, along}
+use Rattle.masks.proofs.Numbers.{some-e}
+use Rattle.masks.proofs.Tests.{and-l, and-r, not-and, not-not}
+use Rattle.table.specs.Node.{nodeAt, children}
+use Rattle.table.specs.Outcome.{accepted, refused, after, Outcome}
+use Rattle.table.specs.Words.{inRange, malformed, firstFault, checkWords}
+use Rattle.table.proofs.Checking.{accepted-by}
 use Rattle.terms.specs.Lists.{any}
 use Rattle.terms.proofs.Sorted.{any-e}
-use Rattle.circuits.specs.Check.{inRange, malformed, parentless, undecomposable, unreduced, accepted, firstFault, rules}
-use Rattle.circuits.specs.Check.{check}
-use Rattle.circuits.specs.Node.{nodeAt, children}
-use Rattle.circuits.specs.Outcome.{refused}
-
-no-fault : (n : ℕ) (rs : List (ℕ × (ℕ → Bool))) → firstFault n rs ≡ accepted
-    → (r : ℕ × (ℕ → Bool)) → List·Memᴰ r rs → (i : ℕ) → i < n → T (not (r .1 i))
-no-fault n [] h r m i l = absurd (List·Memᴰ·not-nil m)
-no-fault n (q ∷ rs) h r m i l = go (ltb (least n (q .1)) n) refl h (no-fault n rs)
-  where
-    go : (b : Bool) → ltb (least n (q .1)) n ≡ b → cond b (refused (q .0) (least n (q .1))) (firstFault n rs) ≡ accepted
-        → (firstFault n rs ≡ accepted → (r : ℕ × (ℕ → Bool)) → List·Memᴰ r rs → (i : ℕ) → i < n → T (not (r .1 i)))
-        → T (not (r .1 i))
-    go true e h rest = let z : _≡_ {A = ℕ} 0 1 = cc in absurd (omega arith)
-    go false e h rest =
-        ⊎-elim
-        (λ (d : r ≡ q).
-        subst (λ (z : ℕ × (ℕ → Bool)). T (not (z .1 i))) (sym d)
-        (least-none n (q .1) (nltb→le (least n (q .1)) n (along (ap not (sym e)) tt)) i l))
-        (λ (k : List·Memᴰ r rs). rest h r k i l)
-        (List·Memᴰ·cases-cons m)
+use Rattle.circuits.specs.Check.{nodeRules, parentless, undecomposable, unreduced, rules, check}
 
 pub record Accepted (N n : ℕ) (w : List ℕ) : Type 0 where
   pub range : T (inRange N n w)
@@ -44,21 +27,15 @@ pub record Accepted (N n : ℕ) (w : List ℕ) : Type 0 where
 
 pub accepted-e : (N n : ℕ) (w : List ℕ) → check N n w ≡ accepted → Accepted N n w
 unfolding check
-accepted-e N n w e = go (inRange N n w) refl e
-  where
-    go : (b : Bool) → inRange N n w ≡ b → cond b (firstFault n (rules N n w)) (refused 21 0) ≡ accepted → Accepted N n w
-    go true d h =
-        record {
-          range = along (sym d) tt;
-          well = no-fault n (rules N n w) h (22, malformed N w) (List·Memᴰ·head refl);
-          child = no-fault n (rules N n w) h (23, parentless w n) (List·Memᴰ·tail (List·Memᴰ·head refl));
-          decomposed =
-              no-fault n (rules N n w) h (24, undecomposable w) (List·Memᴰ·tail (List·Memᴰ·tail (List·Memᴰ·head refl)));
-          reduced =
-              no-fault n (rules N n w) h (25, unreduced w)
-              (List·Memᴰ·tail (List·Memᴰ·tail (List·Memᴰ·tail (List·Memᴰ·head refl))));
-        }
-    go false d h = let z : _≡_ {A = ℕ} 0 1 = cc in absurd (omega arith)
+accepted-e N n w e =
+    let (range, none) = accepted-by N n w (rules N n w) e in
+    record {
+      range = range;
+      well = none (22, malformed N w) (List·Memᴰ·head refl);
+      child = none (23, parentless w n) (List·Memᴰ·tail (List·Memᴰ·head refl));
+      decomposed = none (24, undecomposable w) (List·Memᴰ·tail (List·Memᴰ·tail (List·Memᴰ·head refl)));
+      reduced = none (25, unreduced w) (List·Memᴰ·tail (List·Memᴰ·tail (List·Memᴰ·tail (List·Memᴰ·head refl))));
+    }
 
 module _ (N n : ℕ) (w : List ℕ) (acc : Accepted N n w) where
   pub variables-le : N ≤ 40
@@ -79,3 +56,19 @@ module _ (N n : ℕ) (w : List ℕ) (acc : Accepted N n w) where
     where
       isParent : ℕ → Bool
       isParent j = any (eqb i) (children (nodeAt w j))
+
+-- the check is 21 and 22, and then the rules for well-formed nodes
+pub check-after : (N n : ℕ) (w : List ℕ) → check N n w ≡ after (checkWords N n w) (firstFault n (nodeRules n w))
+unfolding check checkWords
+check-after N n w = by (inRange N n w) (ltb (least n (malformed N w)) n)
+  where
+    here : Outcome (Unit {0})
+    here = refused 22 (least n (malformed N w))
+
+    rest : Outcome (Unit {0})
+    rest = firstFault n (nodeRules n w)
+
+    by : (r m : Bool) → cond r (cond m here rest) (refused 21 0) ≡ after (cond r (cond m here accepted) (refused 21 0)) rest
+    by true true = refl
+    by true false = refl
+    by false m = refl

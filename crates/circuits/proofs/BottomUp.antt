@@ -1,7 +1,7 @@
 -- What is computed bottom up is computed of each node from its children's.
 use Prim.Native.Nat.{ℕ, zero, suc, _<_}
 use mathlib.Core.Path.{_≡_, refl, sym, ap, ap₂, subst, _∙_}
-use mathlib.Core.Bool.{Bool, true, false, _&&_, cond}
+use mathlib.Core.Bool.{Bool, true, false, cond, _&&_}
 use mathlib.Core.Logic.{⊎-elim}
 use mathlib.Core.List.{List, [], _∷_, List·Memᴰ, List·Memᴰ·head, List·Memᴰ·tail}
 use native.Mathlib.Nat.{not-suc-le-zero}
@@ -11,9 +11,9 @@ use lib.Seq.{getD-at}
 use lib.Bits.{bitOr}
 use Rattle.masks.specs.Mask.{bit, put}
 use Rattle.masks.proofs.Tests.{below-suc}
+use Rattle.table.specs.Node.{nodeAt, children, Node, constant, literal, decision, conjunction, unknown}
 use Rattle.terms.specs.Lists.{all}
 use Rattle.circuits.specs.Function.{bottomUp, ofNode, nodeValue, union, nodeSupport}
-use Rattle.circuits.specs.Node.{nodeAt, children, Node, constant, literal, decision, conjunction, unknown}
 
 -- f looks only at what is known of the node's children
 abbrev pub Local : {A : Type 0} → (Node → (ℕ → A) → A) → Type 0
@@ -57,7 +57,7 @@ pub all-local : (cs : List ℕ) (v v′ : ℕ → Bool) → ((c : ℕ) → List�
 all-local [] v v′ h = refl
 all-local (c ∷ cs) v v′ h = ap₂ _&&_ (h c (List·Memᴰ·head refl)) (all-local cs v v′ (λ b m. h b (List·Memᴰ·tail m)))
 
-union-local : (cs : List ℕ) (v v′ : ℕ → ℕ) → ((c : ℕ) → List·Memᴰ c cs → v c ≡ v′ c) → union v cs ≡ union v′ cs
+pub union-local : (cs : List ℕ) (v v′ : ℕ → ℕ) → ((c : ℕ) → List·Memᴰ c cs → v c ≡ v′ c) → union v cs ≡ union v′ cs
 union-local [] v v′ h = refl
 union-local (c ∷ cs) v v′ h = ap₂ bitOr (h c (List·Memᴰ·head refl)) (union-local cs v v′ (λ b m. h b (List·Memᴰ·tail m)))
 

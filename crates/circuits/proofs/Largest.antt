@@ -9,12 +9,12 @@ use native.Mathlib.Nat.{eq-or-lt-of-le}
 use native.Mathlib.Omega.{arith}
 use lib.Dec.{T}
 use lib.ListN.{length}
+use Rattle.table.specs.Node.{nodeAt, children, Node, constant, literal, decision, conjunction, unknown}
 use Rattle.terms.specs.Prime.{primes}
 use Rattle.terms.proofs.Embeddings.{embeds-refl, embeds-trans, embeds-length, left-embeds, right-embeds, Embeds}
 use Rattle.terms.proofs.Implicants.{Free}
 use Rattle.circuits.specs.Check.{allDisjoint}
 use Rattle.circuits.specs.Function.{function, support}
-use Rattle.circuits.specs.Node.{nodeAt, children, Node, constant, literal, decision, conjunction, unknown}
 use Rattle.circuits.proofs.Accepted.{parent, Accepted}
 use Rattle.circuits.proofs.Nodes.{allOf, function-is, conjunction-below, conjunction-disjoint, all-apart, rest-disjoint}
 use Rattle.circuits.proofs.Satisfiable.{HasPrime, all-has, conjunction-live, side-up, has-prime}

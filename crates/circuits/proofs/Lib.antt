@@ -5,4 +5,4 @@ pub mod Nodes
 pub mod Satisfiable
 pub mod Largest
 pub mod Rows
-pub mod Gates
+pub mod Unread

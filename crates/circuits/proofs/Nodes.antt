@@ -11,13 +11,14 @@ use Rattle.masks.specs.Mask.{width, bit, put, disjoint}
 use Rattle.masks.proofs.Masks.{put-same, put-lt}
 use Rattle.masks.proofs.Operators.{disjoint-at}
 use Rattle.masks.proofs.Tests.{and-l, and-r, not-or, not-not, along, either, same?}
+use Rattle.table.specs.Node.{nodeAt, Node, decision, conjunction}
 use Rattle.terms.specs.Lists.{all}
+use Rattle.terms.specs.Prime.{Prime}
 use Rattle.terms.specs.Term.{empty, has, without, extend}
-use Rattle.terms.proofs.Implicants.{Free, Prime}
+use Rattle.terms.proofs.Implicants.{Free}
 use Rattle.terms.proofs.Terms.{without-here, extend-here, extend-there, empty-has, without-inside, empty-isTerm, extend-isTerm}
 use Rattle.circuits.specs.Check.{allDisjoint, nodeMeets, undecomposable}
 use Rattle.circuits.specs.Function.{signed, nodeValue, function, union, support}
-use Rattle.circuits.specs.Node.{nodeAt, Node, decision, conjunction}
 use Rattle.circuits.proofs.Accepted.{variables-wide, Accepted}
 use Rattle.circuits.proofs.Tables.{Fits, all-free, fits, function-of, not-under-free}
 

@@ -8,24 +8,24 @@ use lib.Dec.{T, T-not}
 use Rattle.masks.specs.Mask.{width, bit, put}
 use Rattle.masks.proofs.Masks.{put-same, put-lt}
 use Rattle.masks.proofs.Tests.{decide, along}
+use Rattle.table.specs.Node.{nodeAt, Node, constant, literal, decision, conjunction, unknown}
 use Rattle.terms.specs.Lists.{sort}
 use Rattle.terms.specs.Order.{before}
-use Rattle.terms.specs.Prime.{primes}
-use Rattle.terms.specs.Term.{empty, has, without, extend}
+use Rattle.terms.specs.Prime.{primes, Implicant, Prime}
+use Rattle.terms.specs.Term.{empty, has, without, extend, IsTerm}
 use Rattle.terms.specs.declared.Term.{Term}
 use Rattle.terms.proofs.Built.{joins, decisionTerms, joins-lists, decision-lists}
 use Rattle.terms.proofs.Decisions.{choice}
-use Rattle.terms.proofs.Implicants.{Implicant, least-same, Prime}
+use Rattle.terms.proofs.Implicants.{least-same}
 use Rattle.terms.proofs.Listed.{primes-lists, sort-primes, Lists}
-use Rattle.terms.proofs.Terms.{Inside, extend-there, extend-only, empty-has, by-variable, without-inside, agrees-inside}
-use Rattle.terms.proofs.Terms.{put-agrees, own-agrees, IsTerm}
+use Rattle.terms.proofs.Terms.{Inside, extend-there, extend-only, empty-has, by-variable, without-inside, agrees-inside, put-agrees}
+use Rattle.terms.proofs.Terms.{own-agrees}
 use Rattle.circuits.specs.Check.{allDisjoint}
 use Rattle.circuits.specs.Function.{ofNode, signed, nodeValue, function, support}
-use Rattle.circuits.specs.Node.{nodeAt, Node, constant, literal, decision, conjunction, unknown}
 use Rattle.circuits.proofs.Accepted.{variables-wide, Accepted}
 use Rattle.circuits.proofs.BottomUp.{Local, from-children, branch-mem}
-use Rattle.circuits.proofs.Nodes.{sides, allOf, function-is, decision-free, conjunction-below, conjunction-disjoint}
-use Rattle.circuits.proofs.Nodes.{all-apart, rest-disjoint, true-prime, signed-not, literal-prime}
+use Rattle.circuits.proofs.Nodes.{sides, allOf, function-is, decision-free, conjunction-below, conjunction-disjoint, all-apart}
+use Rattle.circuits.proofs.Nodes.{rest-disjoint, true-prime, signed-not, literal-prime}
 use Rattle.circuits.proofs.Tables.{Fits, fits, children-below, node-induction}
 
 -- each term of the first child joined with each of the others

@@ -6,21 +6,21 @@ use mathlib.Core.Logic.{⊎-elim}
 use mathlib.Core.List.{List, [], _∷_, List·Memᴰ, List·Memᴰ·head, List·Memᴰ·tail}
 use lib.Dec.{T, T-not, not-T}
 use Rattle.masks.proofs.Tests.{not-and}
+use Rattle.table.specs.Node.{nodeAt, children, Node, constant, literal, decision, conjunction, unknown}
 use Rattle.terms.specs.Lists.{any}
+use Rattle.terms.specs.Prime.{Prime}
 use Rattle.terms.specs.Term.{empty, extend, join}
 use Rattle.terms.specs.declared.Term.{Term}
 use Rattle.terms.proofs.Conjunctions.{apart-prime}
 use Rattle.terms.proofs.Embeddings.{side-embeds, Embeds}
-use Rattle.terms.proofs.Implicants.{Prime}
 use Rattle.terms.proofs.Sorted.{any-i}
 use Rattle.terms.proofs.Terms.{own-agrees}
 use Rattle.circuits.specs.Check.{allDisjoint, isFalse, nodeUnreduced, unreduced}
 use Rattle.circuits.specs.Function.{function, support}
-use Rattle.circuits.specs.Node.{nodeAt, children, Node, constant, literal, decision, conjunction, unknown}
 use Rattle.circuits.proofs.Accepted.{Accepted}
 use Rattle.circuits.proofs.BottomUp.{branch-mem}
-use Rattle.circuits.proofs.Nodes.{sides, allOf, node-fits, function-is, decision-free, conjunction-below}
-use Rattle.circuits.proofs.Nodes.{conjunction-disjoint, all-apart, rest-disjoint, true-prime, literal-prime}
+use Rattle.circuits.proofs.Nodes.{sides, allOf, node-fits, function-is, decision-free, conjunction-below, conjunction-disjoint}
+use Rattle.circuits.proofs.Nodes.{all-apart, rest-disjoint, true-prime, literal-prime}
 use Rattle.circuits.proofs.Tables.{Fits, fits, node-induction}
 
 module _ (N n : ℕ) (w : List ℕ) (acc : Accepted N n w) where

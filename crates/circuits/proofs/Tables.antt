@@ -1,7 +1,7 @@
 -- A table in which every node is well-formed: children stand below, and a variable not under a node does not matter to it.
 use Prim.Native.Nat.{ℕ, zero, suc, _<_}
 use mathlib.Core.Path.{_≡_, refl, sym, ap, ap₂, subst, _∙_}
-use mathlib.Core.Bool.{Bool, true, false, _&&_, not, cond}
+use mathlib.Core.Bool.{Bool, true, false, not, cond, _&&_}
 use mathlib.Core.Logic.{⊎-elim, _≢_}
 use mathlib.Core.List.{List, [], _∷_, List·Memᴰ, List·Memᴰ·head, List·Memᴰ·tail, List·Memᴰ·not-nil, List·Memᴰ·cases-cons}
 use mathlib.Core.List.{List·Memᴰ·eq-of-singleton}
@@ -13,12 +13,12 @@ use Rattle.masks.specs.Mask.{bit, put}
 use Rattle.masks.proofs.Masks.{put-same, put-other}
 use Rattle.masks.proofs.Operators.{bit-or}
 use Rattle.masks.proofs.Tests.{and-l, and-r, not-or, not-not, along, either}
+use Rattle.table.specs.Node.{kind, node, word, nodeAt, children, Kind, constantKind, literalKind, decisionKind, conjunctionKind}
+use Rattle.table.specs.Node.{unknownKind, Node, constant, literal, decision, conjunction, unknown}
+use Rattle.table.specs.Words.{wellFormed, malformed}
 use Rattle.terms.specs.Lists.{all}
 use Rattle.terms.proofs.Implicants.{Free}
-use Rattle.circuits.specs.Check.{wellFormed, malformed}
 use Rattle.circuits.specs.Function.{signed, nodeValue, function, union, nodeSupport, support}
-use Rattle.circuits.specs.Node.{kind, node, word, nodeAt, children, Kind, constantKind, literalKind, decisionKind}
-use Rattle.circuits.specs.Node.{conjunctionKind, unknownKind, Node, constant, literal, decision, conjunction, unknown}
 use Rattle.circuits.proofs.BottomUp.{from-children, branch-mem, value-local, support-local}
 
 -- every node below n is well-formed

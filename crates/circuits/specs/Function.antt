@@ -5,8 +5,8 @@ use mathlib.Core.List.{List, [], _∷_, _++_}
 use lib.ListN.{getD}
 use lib.Bits.{bitOr}
 use Rattle.masks.specs.Mask.{bit, put}
+use Rattle.table.specs.Node.{nodeAt, Node, constant, literal, decision, conjunction, unknown}
 use Rattle.terms.specs.Lists.{all}
-use Rattle.circuits.specs.Node.{nodeAt, Node, constant, literal, decision, conjunction, unknown}
 
 -- f makes something of a node from what it makes of the node's children. `bottomUp n` is what it makes of the nodes below n,
 -- node 0 first; d stands for a child that is not there

@@ -1,5 +1,2 @@
-pub mod Node
-pub mod Gate
 pub mod Function
-pub mod Outcome
 pub mod Check

@@ -1,15 +1,21 @@
 // Prints the prime implicants ("clearances") of the circuit whose text stands on standard input.
-use circuits::Refusal;
 use console::print;
 use libc::STDIN_FILENO;
+use listing::Listing;
 use output::refusals::fault_line;
 use output::refusals::table_refusal_line;
-use primes::Listing;
+use table::NODE_WORDS;
+use table::Refusal;
 use terms::Term;
 use text::answer::Reading;
+use text::limits::MAX_BYTES;
 
-// How many prime implicants a node may have.
+// How many nodes the program takes, how many prime implicants of each, and how many entries the row buffers have for them.
+const NODES: usize = 64;
+
 const CAPACITY: u32 = 64;
+
+const ENTRIES: usize = 4096;
 
 fn print_term(positive: u64, negative: u64) {
     let mut line = [0u8; 512];
@@ -52,17 +58,17 @@ fn print_last(positives: &[u64], negatives: &[u64], counts: &[u32], nodes: u32) 
     let count = counts[last as usize];
     print_count(count);
     print_terms(
-        primes::view(positives, CAPACITY, last, count),
-        primes::view(negatives, CAPACITY, last, count),
+        listing::view(positives, CAPACITY, last, count),
+        listing::view(negatives, CAPACITY, last, count),
     );
 }
 
 // Lists the circuit and prints its terms, or the refusal.
 fn print_circuit(words: &[u32], variables: u32, nodes: u32) {
-    let mut positives = [0u64; 4096];
-    let mut negatives = [0u64; 4096];
-    let mut counts = [0u32; 64];
-    match primes::list(
+    let mut positives = [0u64; ENTRIES];
+    let mut negatives = [0u64; ENTRIES];
+    let mut counts = [0u32; NODES];
+    match listing::list(
         &mut positives,
         &mut negatives,
         &mut counts,
@@ -77,9 +83,9 @@ fn print_circuit(words: &[u32], variables: u32, nodes: u32) {
 }
 
 fn main() {
-    let mut text = [0u8; 40001];
+    let mut text = [0u8; MAX_BYTES + 1];
     let length = io::read_full(STDIN_FILENO, &mut text);
-    let mut words = [0u32; 256];
+    let mut words = [0u32; NODE_WORDS * NODES];
     match text_reader::reader::read(&text[..length], &mut words) {
         Reading::Refused(fault, place) => {
             let mut line = [0u8; 512];

@@ -11,9 +11,8 @@ use lib.Seq.{length-take-le}
 use borrow.Author.Tests.{leb-true, leb-false, le-leb, lt-leb}
 use Rattle.terms.specs.Lists.{insert}
 use Rattle.terms.specs.Order.{before}
-use Rattle.terms.specs.Term.{mask}
+use Rattle.terms.specs.Term.{mask, termsOf}
 use Rattle.terms.specs.declared.Term.{Term}
-use Rattle.lists.specs.Scans.{termsOf}
 use Rattle.lists.proofs.Parts.{length-terms}
 use Rattle.insertion.specs.Filled.{insertAt, Placed, bySign, held, masksOf, keptOf, Filled}
 use Rattle.insertion.specs.declared.Kept.the-variants.{Count, Full}

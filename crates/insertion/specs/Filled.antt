@@ -7,9 +7,8 @@ use lib.Dec.{leb}
 use lib.ListN.{length, take, drop}
 use Rattle.terms.specs.Lists.{insert}
 use Rattle.terms.specs.Order.{before}
-use Rattle.terms.specs.Term.{mask}
+use Rattle.terms.specs.Term.{mask, termsOf}
 use Rattle.terms.specs.declared.Term.{Term}
-use Rattle.lists.specs.Scans.{termsOf}
 use Rattle.insertion.specs.declared.Kept.{Kept}
 use Rattle.insertion.specs.declared.Kept.the-variants.{Count, Full}
 use Rattle.insertion.specs.declared.Place.{Place}

@@ -10,13 +10,12 @@ use lib.ListN.{length}
 use Rattle.masks.specs.Mask.{width}
 use Rattle.masks.proofs.Tests.{and-i, and-l, and-r, decide, is-true, along, same-test}
 use Rattle.terms.specs.Lists.{any}
-use Rattle.terms.specs.Term.{literals, join, inside}
+use Rattle.terms.specs.Term.{literals, join, inside, IsTerm, termsOf}
 use Rattle.terms.specs.declared.Term.{Term}
 use Rattle.terms.proofs.Built.{joins, holdsShorter, joins-in, joins-out, conflict-free, joined-free, as-long, JoinOf}
 use Rattle.terms.proofs.Sorted.{any-i, any-e}
-use Rattle.terms.proofs.Terms.{Inside, inside-trans, join-l, join-r, join-least, term-ext, join-isTerm, join-within, inside-e}
-use Rattle.terms.proofs.Terms.{inside-i, IsTerm}
-use Rattle.lists.specs.Scans.{termsOf, termAt, short, shorter, shorterJoin, shorterAt}
+use Rattle.terms.proofs.Terms.{Inside, inside-trans, join-l, join-r, join-least, term-ext, join-isTerm, join-within, inside-e, inside-i}
+use Rattle.lists.specs.Scans.{termAt, short, shorter, shorterJoin, shorterAt}
 use Rattle.lists.proofs.Parts.{term-in}
 
 -- the list is of terms over N variables

@@ -8,8 +8,9 @@ use native.Mathlib.Numerals.{add-one}
 use native.Mathlib.Omega.{arith}
 use lib.ListN.{length, drop, drop-of-length-le}
 use Rattle.terms.specs.Lists.{any}
+use Rattle.terms.specs.Term.{termsOf}
 use Rattle.terms.specs.declared.Term.{Term}
-use Rattle.lists.specs.Scans.{termsOf, termAt}
+use Rattle.lists.specs.Scans.{termAt}
 
 pub length-terms : (ps ns : List ℕ) → length ns ≡ length ps → length (termsOf ps ns) ≡ length ps
 length-terms [] ns e = refl

@@ -12,11 +12,11 @@ use Rattle.masks.proofs.Masks.{bit-zero}
 use Rattle.masks.proofs.Operators.{bit-and}
 use Rattle.masks.proofs.Tests.{and-i, and-l, and-r, or-l, or-r, or-cases, is-true, along, same-test}
 use Rattle.terms.specs.Lists.{any}
-use Rattle.terms.specs.Term.{term, empty, has, join, inside}
+use Rattle.terms.specs.Term.{term, empty, has, join, inside, termsOf}
 use Rattle.terms.specs.declared.Term.{Term}
 use Rattle.terms.proofs.Sorted.{any-i, any-e}
 use Rattle.terms.proofs.Terms.{Inside, inside-trans, join-l, join-r, join-least, inside-mono}
-use Rattle.lists.specs.Scans.{termsOf, termAt, short, shorter, shorterJoin, shorterAt, narrowed}
+use Rattle.lists.specs.Scans.{termAt, short, shorter, shorterJoin, shorterAt, narrowed}
 use Rattle.lists.proofs.Parts.{drop-terms, drop-end}
 
 -- the literals of c that every term of the list inside t has

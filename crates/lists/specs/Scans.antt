@@ -2,23 +2,17 @@
 use Prim.Native.Nat.{ℕ}
 use mathlib.Core.Path.{_≡_}
 use mathlib.Core.Bool.{Bool, true, false, _&&_, not, cond}
-use mathlib.Core.List.{List, [], _∷_}
+use mathlib.Core.List.{List}
 use lib.Bits.{bitAnd}
 use lib.Dec.{ltb}
 use lib.ListN.{length, getD}
 use Rattle.terms.specs.Lists.{any}
-use Rattle.terms.specs.Term.{term, join, inside}
+use Rattle.terms.specs.Term.{termsOf, term, join, inside}
 use Rattle.terms.specs.declared.Term.{Term}
 use Rattle.lists.specs.declared.Shorter.{Shorter}
 use Rattle.lists.specs.declared.Shorter.the-variants.{None, At}
 
--- the terms with these positive masks and these negative masks
-abbrev pub termsOf : List ℕ → List ℕ → List Term
-termsOf [] ns = []
-termsOf (p ∷ ps) [] = []
-termsOf (p ∷ ps) (n ∷ ns) = term p n ∷ termsOf ps ns
-
--- term k of them
+-- term k of a list
 abbrev pub termAt : List ℕ → List ℕ → ℕ → Term
 termAt ps ns k = term (getD ps k 0) (getD ns k 0)
 

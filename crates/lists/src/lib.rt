@@ -3,9 +3,12 @@ ghost use mathlib.Core.Path.{_≡_};
 ghost use Prim.Native.Nat.{_<_};
 ghost use lib.ListN.{length};
 ghost use Rattle.terms.specs.Lists.{any};
-ghost use Rattle.terms.specs.Term.{inside};
-ghost use Rattle.lists.specs.Scans.{termsOf, termAt, short, shorterAt, narrowed, Found};
+ghost use Rattle.terms.specs.Term.{inside, termsOf};
+ghost use Rattle.lists.specs.Scans.{termAt, short, shorterAt, narrowed, Found};
 use terms::Term;
+
+// How many terms of a node there may be room for.
+pub const MAX_CAPACITY: u32 = 4096;
 
 // The places of two terms whose join is shorter, or that there are none.
 pub enum Shorter {
@@ -91,10 +94,7 @@ pub fn find_shorter(ap: &[u64], an: &[u64], bp: &[u64], bn: &[u64], t: Term) -> 
     requires { ⌜ (length (now an) ≡ length (now ap)) × (length (now bn) ≡ length (now bp)) ⌝ }
     ensures { λ r. ⌜ Found (now (ap .entry)) (now (an .entry)) (now (bp .entry)) (now (bn .entry)) t r ⌝ }
 {
-    let mut shared = Term {
-        positive: 0,
-        negative: 0,
-    };
+    let mut shared = terms::EMPTY;
     let mut found = Shorter::None;
     let mut k = 0;
     'pairs: while k < ap.len() {

@@ -1,9 +1,10 @@
 -- Laws of the tests of the numbers below a bound.
 use Prim.Native.Nat.{ℕ, zero, suc, _+_, _<_, _≤_}
 use mathlib.Core.Path.{_≡_, refl, sym, ap, ap₂, subst, _∙_}
-use mathlib.Core.Bool.{Bool, true, false, _&&_, not, cond, and-assoc, and-comm}
+use mathlib.Core.Bool.{Bool, true, false, _&&_, _||_, not, cond, and-assoc, and-comm}
 use mathlib.Core.Logic.{⊎-elim}
-use mathlib.Core.List.{[], _∷_, List·Memᴰ, List·Memᴰ·head, Memᴰ·append-left, Memᴰ·append-right}
+use mathlib.Core.List.{[], _∷_, List·Memᴰ, List·Memᴰ·head, List·Memᴰ·not-nil, List·Memᴰ·eq-of-singleton}
+use mathlib.Core.List.{List·Memᴰ·append-cases, Memᴰ·append-left, Memᴰ·append-right}
 use native.Mathlib.Nat.{not-suc-le-zero, le-refl, add-zero, zero-add}
 use native.Mathlib.Omega.{arith}
 use lib.Dec.{T, ltb, ltb→lt, nltb→le}
@@ -49,6 +50,11 @@ some-i (suc n) p i l h =
     ⊎-elim (λ (e : i ≡ n). or-l (p n) (some n p) (subst (λ (k : ℕ). T (p k)) e h))
     (λ (k : i < n). or-r (p n) (some n p) (some-i n p i k h))
     (below-suc l)
+
+pub some-ext : (n : ℕ) (p q : ℕ → Bool) → ((i : ℕ) → i < n → p i ≡ q i) → some n p ≡ some n q
+unfolding some
+some-ext zero p q h = refl
+some-ext (suc n) p q h = ap₂ _||_ (h n (le-refl (suc n))) (some-ext n p q (λ i l. h i (omega arith)))
 
 -- ---- counting
 pub count-ext : (n : ℕ) (p q : ℕ → Bool) → ((i : ℕ) → i < n → p i ≡ q i) → count n p ≡ count n q
@@ -112,6 +118,13 @@ count-not (suc n) p = go (p n) (count-not n p)
     go false e = omega arith
 
 -- ---- the least number that passes
+pub least-ext : (n : ℕ) (p q : ℕ → Bool) → ((i : ℕ) → i < n → p i ≡ q i) → least n p ≡ least n q
+unfolding least
+least-ext zero p q h = refl
+least-ext (suc n) p q h =
+    ap₂ (λ (l : ℕ) (b : Bool). cond (ltb l n) l (cond b n (suc n))) (least-ext n p q (λ i l. h i (omega arith)))
+    (h n (le-refl (suc n)))
+
 pub least-none : (n : ℕ) (p : ℕ → Bool) → n ≤ least n p → (i : ℕ) → i < n → T (not (p i))
 unfolding least
 least-none zero p h i l = absurd (not-suc-le-zero l)
@@ -133,3 +146,11 @@ below-mem (suc n) i l =
     ⊎-elim (λ (e : i ≡ n). Memᴰ·append-right (below n) (List·Memᴰ·head e))
     (λ (k : i < n). Memᴰ·append-left (n ∷ []) (below-mem n i k))
     (below-suc l)
+
+pub below-out : (n i : ℕ) → List·Memᴰ i (below n) → i < n
+unfolding below
+below-out zero i m = absurd (List·Memᴰ·not-nil m)
+below-out (suc n) i m =
+    ⊎-elim (λ (k : List·Memᴰ i (below n)). let l : i < n = below-out n i k in omega arith)
+    (λ (k : List·Memᴰ i (n ∷ [])). let e : i ≡ n = List·Memᴰ·eq-of-singleton k in omega arith)
+    (List·Memᴰ·append-cases (below n) m)

@@ -1,6 +1,6 @@
 -- What a computed test says, and how tests combine.
 use Prim.Native.Nat.{ℕ, suc, _<_}
-use mathlib.Core.Path.{_≡_, refl, subst}
+use mathlib.Core.Path.{_≡_, refl, sym, ap, subst}
 use mathlib.Core.Bool.{Bool, true, false, _&&_, _||_, not}
 use mathlib.Core.Logic.{_⊎_, inl, inr, _≢_}
 use native.Mathlib.Nat.{eq-or-lt-of-le, le-of-suc-le-suc}
@@ -68,6 +68,13 @@ is-false false h = refl
 -- from an equation of tests, the fact
 pub along : {a b : Bool} → a ≡ b → T a → T b
 along e h = subst T e h
+
+-- what a negated test says
+pub was-false : (b : Bool) → not b ≡ true → b ≡ false
+was-false b e = is-false b (along (sym e) tt)
+
+pub was-true : (b : Bool) → not b ≡ false → b ≡ true
+was-true b e = is-true b (not-not b (along (ap not (sym e)) tt))
 
 -- two tests that give each other are the same
 pub same-test : (a b : Bool) → (T a → T b) → (T b → T a) → a ≡ b

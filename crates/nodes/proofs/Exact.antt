@@ -6,6 +6,9 @@ use mathlib.Core.Logic.{_⊎_, inl, inr, ⊎-elim}
 use mathlib.Core.List.{List, [], _∷_, List·Memᴰ·head, List·Memᴰ·tail}
 use native.Mathlib.Omega.{arith}
 use Rattle.masks.specs.Mask.{width}
+use Rattle.table.specs.Gate.{childAt}
+use Rattle.table.specs.Node.{kind, node, word, nodeAt, Kind, constantKind, literalKind, decisionKind, conjunctionKind, unknownKind}
+use Rattle.table.specs.Node.{Node, constant, literal, decision, conjunction, unknown}
 use Rattle.terms.specs.Prime.{primes}
 use Rattle.terms.specs.declared.Term.{Term}
 use Rattle.terms.proofs.Built.{joins, joins-lists, decision-with}
@@ -14,18 +17,15 @@ use Rattle.terms.proofs.Decisions.{choice}
 use Rattle.terms.proofs.Implicants.{Free}
 use Rattle.terms.proofs.Listed.{primes-lists, Lists}
 use Rattle.circuits.specs.Function.{function}
-use Rattle.circuits.specs.Node.{kind, node, word, nodeAt, Kind, constantKind, literalKind, decisionKind, conjunctionKind}
-use Rattle.circuits.specs.Node.{unknownKind, Node, constant, literal, decision, conjunction, unknown}
 use Rattle.circuits.proofs.Accepted.{variables-le, variables-wide, Accepted}
 use Rattle.circuits.proofs.BottomUp.{from-children}
 use Rattle.circuits.proofs.Nodes.{sides, allOf, node-fits, function-is, decision-free, conjunction-below, conjunction-disjoint}
 use Rattle.circuits.proofs.Nodes.{all-apart}
 use Rattle.circuits.proofs.Rows.{nodeTerms, termsAt, terms-local, terms-primes}
 use Rattle.circuits.proofs.Tables.{Fits, children-below}
-use Rattle.lists.proofs.Least.{Terms}
 use Rattle.builder.specs.Made.{insertAll, madeJoins, madeDecision}
 use Rattle.builder.proofs.Complete.{inserted-primes, all-joins, made-lists}
-use Rattle.nodes.specs.Part.{nodeMade, childAt, Ready}
+use Rattle.nodes.specs.Part.{nodeMade, Ready}
 
 module _ (N n : ℕ) (w : List ℕ) (acc : Accepted N n w) where
   abbrev rows : ℕ → List Term
@@ -33,9 +33,6 @@ module _ (N n : ℕ) (w : List ℕ) (acc : Accepted N n w) where
 
   listed : (c : ℕ) → Lists N (function w c) (rows c)
   listed c = primes-lists N (function w c)
-
-  are-terms : (c : ℕ) → Terms N (rows c)
-  are-terms c t m = listed c .only t m .isTerm
 
   wide : N ≤ width
   wide = variables-wide N n w acc

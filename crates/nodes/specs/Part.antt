@@ -4,10 +4,10 @@ use mathlib.Core.Path.{_≡_}
 use mathlib.Core.Bool.{Bool, true, false, cond}
 use mathlib.Core.List.{List, [], _∷_, _++_}
 use lib.ListN.{length, take, drop, getD}
-use Rattle.terms.specs.Term.{empty, extend}
+use Rattle.table.specs.Gate.{childAt}
+use Rattle.table.specs.Node.{Node, constant, literal, decision, conjunction, unknown}
+use Rattle.terms.specs.Term.{empty, extend, termsOf}
 use Rattle.terms.specs.declared.Term.{Term}
-use Rattle.circuits.specs.Node.{children, Node, constant, literal, decision, conjunction, unknown}
-use Rattle.lists.specs.Scans.{termsOf}
 use Rattle.insertion.specs.Filled.{masksOf, laid, keptOf}
 use Rattle.insertion.specs.declared.Kept.{Kept}
 use Rattle.builder.specs.Made.{insertAll, madeJoins, madeDecision}
@@ -40,10 +40,6 @@ laidAt at capacity l s = take at s ++ (laid l (take capacity (drop at s)) ++ dro
 pub record PartFilled (l : List Term) (at capacity : ℕ) (s s′ : Bool → List ℕ) (k : Kept) : Type 0 where
   pub answer : k ≡ keptOf capacity l
   pub masks : length l ≤ capacity → (b : Bool) → s′ b ≡ laidAt at capacity (masksOf b l) (s b)
-
--- child j of a node; 0 for a child that is not there
-abbrev pub childAt : Node → ℕ → ℕ
-childAt y j = getD (children y) j 0
 
 -- what is made of a node from the counts and the terms of the nodes below it
 abbrev pub nodeTermsFrom : Node → ℕ → List ℕ → (Bool → List ℕ) → List Term

@@ -4,39 +4,15 @@ ghost use mathlib.Core.Bool.{cond};
 ghost use mathlib.Core.List.{[], _∷_};
 ghost use Prim.Native.Nat.{ℕ, _+_, _*_, _≤_, _<_};
 ghost use lib.ListN.{length, take, drop, getD};
-ghost use Rattle.terms.specs.Term.{empty, extend};
-ghost use Rattle.circuits.specs.Gate.{gateNode};
-ghost use Rattle.circuits.specs.Node.{nodeAt, nodeWords};
-ghost use Rattle.lists.specs.Scans.{termsOf};
+ghost use Rattle.table.specs.Gate.{gateNode};
+ghost use Rattle.table.specs.Node.{nodeAt, nodeWords, maxNodes};
+ghost use Rattle.terms.specs.Term.{empty, extend, termsOf};
+ghost use Rattle.lists.specs.Capacity.{maxCapacity};
 ghost use Rattle.insertion.specs.Filled.{bySign, Filled};
-ghost use Rattle.nodes.specs.Part.{Named, nodeMade, termsFrom, PartFilled, childAt, nodeTermsFrom, Ready};
-use circuits::Gate;
+ghost use Rattle.nodes.specs.Part.{Named, nodeMade, termsFrom, PartFilled, nodeTermsFrom, Ready};
 use insertion::Kept;
+use table::Gate;
 use terms::Term;
-
-// The children of a node. A leaf has none: 0 stands for them, and nothing is made of what is there.
-pub struct Children {
-    pub left: usize,
-    pub right: usize,
-}
-
-fn children_of(gate: Gate) -> Children
-    ensures { λ r. ⌜ (r .left ≡ childAt (gateNode gate) 0) × (r .right ≡ childAt (gateNode gate) 1) ⌝ }
-{
-    match gate {
-        Gate::Constant(_) => Children { left: 0, right: 0 },
-        Gate::Literal(_, _) => Children { left: 0, right: 0 },
-        Gate::Decision(_, a, b) => Children {
-            left: a as usize,
-            right: b as usize,
-        },
-        Gate::Conjunction(a, b) => Children {
-            left: a as usize,
-            right: b as usize,
-        },
-        Gate::Unknown => Children { left: 0, right: 0 },
-    }
-}
 
 // Makes the terms of a constant: the term with no literal, or none.
 fn constant(positives: &mut [u64], negatives: &mut [u64], value: bool) -> Kept
@@ -44,10 +20,7 @@ fn constant(positives: &mut [u64], negatives: &mut [u64], value: bool) -> Kept
     ensures { λ r. ⌜ Filled (cond value (empty ∷ []) []) (bySign (now (positives .entry)) (now (negatives .entry)))
         (bySign (now (positives .exit)) (now (negatives .exit))) r ⌝ }
 {
-    let empty = Term {
-        positive: 0,
-        negative: 0,
-    };
+    let empty = terms::EMPTY;
     if value {
         return insertion::insert(positives, negatives, 0, empty);
     }
@@ -60,10 +33,7 @@ fn literal(positives: &mut [u64], negatives: &mut [u64], sign: bool, x: u32) -> 
     ensures { λ r. ⌜ Filled (extend empty x sign ∷ []) (bySign (now (positives .entry)) (now (negatives .entry)))
         (bySign (now (positives .exit)) (now (negatives .exit))) r ⌝ }
 {
-    let empty = Term {
-        positive: 0,
-        negative: 0,
-    };
+    let empty = terms::EMPTY;
     insertion::insert(positives, negatives, 0, terms::extend(empty, x, sign))
 }
 
@@ -122,10 +92,10 @@ fn fill_part(
     b: usize,
     cb: usize,
 ) -> Kept
-    requires { ⌜ Named (gateNode gate) × (capacity ≤ 4096) × (ca ≤ capacity) × (cb ≤ capacity) ⌝ }
+    requires { ⌜ Named (gateNode gate) × (capacity ≤ maxCapacity) × (ca ≤ capacity) × (cb ≤ capacity) ⌝ }
     requires { ⌜ (a + capacity ≤ length (now positives)) × (b + capacity ≤ length (now positives))
         × (at + capacity ≤ length (now positives)) × (length (now negatives) ≡ length (now positives)) ⌝ }
-    requires { ⌜ (length (now ap) ≡ 4096) × (length (now an) ≡ 4096) × (length (now bp) ≡ 4096) × (length (now bn) ≡ 4096) ⌝ }
+    requires { ⌜ (length (now ap) ≡ maxCapacity) × (length (now an) ≡ maxCapacity) × (length (now bp) ≡ maxCapacity) × (length (now bn) ≡ maxCapacity) ⌝ }
     ensures { λ r. ⌜ PartFilled (nodeMade (gateNode gate) (termsFrom (bySign (now (positives .entry)) (now (negatives .entry))) a ca)
         (termsFrom (bySign (now (positives .entry)) (now (negatives .entry))) b cb)) at capacity
         (bySign (now (positives .entry)) (now (negatives .entry)))
@@ -168,17 +138,17 @@ pub fn fill_node(
     i: usize,
     capacity: usize,
 ) -> Kept
-    requires { ⌜ (i < 1024) × (capacity ≤ 4096) × (nodeWords * i + nodeWords ≤ length (now words)) × (i < length (now counts)) ⌝ }
+    requires { ⌜ (i < maxNodes) × (capacity ≤ maxCapacity) × (nodeWords * i + nodeWords ≤ length (now words)) × (i < length (now counts)) ⌝ }
     requires { ⌜ Ready i (nodeAt (now words) i) × ((k : ℕ) → k ≤ i → getD (now counts) k 0 ≤ capacity) ⌝ }
     requires { ⌜ (i * capacity + capacity ≤ length (now positives)) × (length (now negatives) ≡ length (now positives)) ⌝ }
-    requires { ⌜ (length (now ap) ≡ 4096) × (length (now an) ≡ 4096) × (length (now bp) ≡ 4096) × (length (now bn) ≡ 4096) ⌝ }
+    requires { ⌜ (length (now ap) ≡ maxCapacity) × (length (now an) ≡ maxCapacity) × (length (now bp) ≡ maxCapacity) × (length (now bn) ≡ maxCapacity) ⌝ }
     ensures { λ r. ⌜ PartFilled (nodeTermsFrom (nodeAt (now (words .entry)) i) capacity (now (counts .entry))
         (bySign (now (positives .entry)) (now (negatives .entry)))) (i * capacity) capacity
         (bySign (now (positives .entry)) (now (negatives .entry)))
         (bySign (now (positives .exit)) (now (negatives .exit))) r ⌝ }
 {
-    let gate = circuits::gate_at(words, i);
-    let below = children_of(gate);
+    let gate = table::gate_at(words, i);
+    let below = table::children_of(gate);
     fill_part(
         positives,
         negatives,

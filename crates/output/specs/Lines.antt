@@ -1,20 +1,26 @@
 -- The lines that the programs print.
-use Prim.Native.Nat.{ℕ, zero, suc}
+use Prim.Native.Char.{code}
+use Prim.Native.Nat.{ℕ, zero, suc, _+_, _-_, _%_, _^_}
 use mathlib.Core.Bool.{Bool, cond}
-use mathlib.Core.List.{List, [], _++_}
+use mathlib.Core.List.{List, [], _∷_, _++_}
 use lib.Dec.{eqb}
 use Rattle.masks.specs.Mask.{width, bit}
-use Rattle.terms.specs.declared.Term.{Term}
 use Rattle.text.specs.Ascii.{ascii}
 use Rattle.text.specs.Syntax.{digitText, decimal}
+use Rattle.terms.specs.declared.Term.{Term}
 
--- a number below 100,000 in base ten, with no leading zero
-unfoldable pub longDecimal : ℕ → List ℕ
-longDecimal v = digitText 10000 v ++ decimal v
+-- the digits of v at the j highest of the units from 10^19 down to 10, from its first digit on
+unfoldable pub highDigits : ℕ → ℕ → List ℕ
+highDigits zero v = []
+highDigits (suc j) v = highDigits j v ++ digitText (10 ^ (19 - j)) v
+
+-- a number below 10^20, as every one of 64 bits is, in base ten with no leading zero
+unfoldable pub wholeDecimal : ℕ → List ℕ
+wholeDecimal v = highDigits 19 v ++ ((code "0" + v % 10) ∷ [])
 
 -- how many prime implicants ("clearances") follow
 unfoldable pub countLine : ℕ → List ℕ
-countLine n = ascii "(clearances " ++ longDecimal n ++ ascii ")\n"
+countLine n = ascii "(clearances " ++ wholeDecimal n ++ ascii ")\n"
 
 -- a variable with its sign, where the test passes
 abbrev pub markText : Bool → List ℕ → ℕ → List ℕ
@@ -32,7 +38,7 @@ termLine t = ascii "(row" ++ literalsText t width ++ ascii ")\n"
 
 -- a refusal's number with its place or node
 unfoldable pub refusalLine : ℕ → ℕ → List ℕ
-refusalLine k p = ascii "(refused " ++ decimal k ++ ascii " " ++ longDecimal p ++ ascii ")\n"
+refusalLine k p = ascii "(refused " ++ decimal k ++ ascii " " ++ wholeDecimal p ++ ascii ")\n"
 
 -- a refusal that has no place: its number only
 unfoldable pub numberLine : ℕ → List ℕ

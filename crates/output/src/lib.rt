@@ -1,23 +1,32 @@
 // The text of one output line. A byte past the sink's end is dropped; the answer is the line's length.
 ghost use Prim.Native.Nat.{_+_, _≤_, _<_};
 ghost use Rattle.text_writer.specs.Sink.{Wrote};
-ghost use Rattle.output.specs.Lines.{longDecimal, countLine, markText, literalsText, termLine, refusalLine, numberLine};
+ghost use Rattle.output.specs.Lines.{wholeDecimal, countLine, markText, literalsText, termLine, refusalLine, numberLine};
 
 pub mod refusals;
 
 use masks::has_bit;
 use terms::Term;
+use text::number::FIRST_DIGIT;
+use text_writer::sink::put;
 use text_writer::sink::put_bytes;
 use text_writer::sink::put_digit;
 use text_writer::sink::put_number;
 
-// A number of up to five digits.
-fn put_long(d: &mut [u8], at: usize, v: u32) -> usize
+// A number of up to twenty digits.
+fn put_whole(d: &mut [u8], at: usize, v: u64) -> usize
     requires { ⌜ at < 700000 ⌝ }
-    ensures { λ r. ⌜ Wrote (now (d .entry)) at (now (d .exit)) r (longDecimal v) × (r ≤ at + 5) ⌝ }
+    ensures { λ r. ⌜ Wrote (now (d .entry)) at (now (d .exit)) r (wholeDecimal v) × (r ≤ at + 20) ⌝ }
 {
-    let p = put_digit(d, at, v, 10000);
-    put_number(d, p, v)
+    let mut p = at;
+    let mut unit: u64 = 10000000000000000000;
+    let mut j: u32 = 0;
+    while j < 19 {
+        p = put_digit(d, p, v, unit);
+        unit = unit / 10;
+        j += 1;
+    }
+    put(d, p, (FIRST_DIGIT + (v % 10) as u32) as u8)
 }
 
 // A variable with its sign, where it stands in the term.
@@ -37,7 +46,7 @@ pub fn count_line(sink: &mut [u8], count: u32) -> usize
     ensures { λ r. ⌜ Wrote (now (sink .entry)) 0 (now (sink .exit)) r (countLine count) ⌝ }
 {
     let p = put_bytes(sink, 0, b"(clearances ");
-    let q = put_long(sink, p, count);
+    let q = put_whole(sink, p, count as u64);
     put_bytes(sink, q, b")\n")
 }
 
@@ -66,13 +75,13 @@ pub fn term_line(sink: &mut [u8], t: Term) -> usize
 }
 
 // A refusal's number with its place or node.
-pub fn refusal_line(sink: &mut [u8], number: u32, place: u32) -> usize
+pub fn refusal_line(sink: &mut [u8], number: u32, place: u64) -> usize
     ensures { λ r. ⌜ Wrote (now (sink .entry)) 0 (now (sink .exit)) r (refusalLine number place) ⌝ }
 {
     let p = put_bytes(sink, 0, b"(refused ");
     let q = put_number(sink, p, number);
     let t = put_bytes(sink, q, b" ");
-    let u = put_long(sink, t, place);
+    let u = put_whole(sink, t, place);
     put_bytes(sink, u, b")\n")
 }
 

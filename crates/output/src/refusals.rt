@@ -1,22 +1,21 @@
 // The line of a refusal.
-ghost use Prim.Native.Nat.{_%_};
-ghost use Rattle.circuits.specs.Outcome.{numberOf, nodeOf};
+ghost use Rattle.table.specs.Outcome.{numberOf, nodeOf};
 ghost use Rattle.text.specs.Answers.{faultNumber};
 ghost use Rattle.text_writer.specs.Sink.{Wrote};
 ghost use Rattle.output.specs.Lines.{refusalLine, tableRefusalLine};
 use super::number_line;
 use super::refusal_line;
-use circuits::Refusal;
-use circuits::node_of;
-use circuits::number_of;
+use table::Refusal;
+use table::node_of;
+use table::number_of;
 use text::answer::Fault;
 use text::answer::fault_number;
 
-// Why a text is refused, with the place; no place has more than five digits.
+// Why a text is refused, with the place.
 pub fn fault_line(sink: &mut [u8], fault: Fault, place: usize) -> usize
-    ensures { λ r. ⌜ Wrote (now (sink .entry)) 0 (now (sink .exit)) r (refusalLine (faultNumber fault) (place % 100000)) ⌝ }
+    ensures { λ r. ⌜ Wrote (now (sink .entry)) 0 (now (sink .exit)) r (refusalLine (faultNumber fault) place) ⌝ }
 {
-    refusal_line(sink, fault_number(fault), (place % 100000) as u32)
+    refusal_line(sink, fault_number(fault), place as u64)
 }
 
 // Why a table is refused, with the node; 42 comes with its number only.
@@ -27,5 +26,5 @@ pub fn table_refusal_line(sink: &mut [u8], why: Refusal) -> usize
     if k == 42 {
         return number_line(sink, k);
     }
-    refusal_line(sink, k, node_of(why))
+    refusal_line(sink, k, node_of(why) as u64)
 }

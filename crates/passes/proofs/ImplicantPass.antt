@@ -9,16 +9,16 @@ use lib.Dec.{T, T-not, not-T}
 use Rattle.masks.specs.Mask.{bit, put}
 use Rattle.masks.proofs.Masks.{put-same, put-other, put-lt}
 use Rattle.masks.proofs.Tests.{and-i, and-l, and-r, decide, is-true, is-false, along, same-test, either}
+use Rattle.table.specs.Node.{nodeAt, Node, constant, literal, decision, conjunction, unknown}
 use Rattle.terms.specs.Lists.{all}
-use Rattle.terms.specs.Prime.{implicant}
-use Rattle.terms.specs.Term.{has}
+use Rattle.terms.specs.Prime.{implicant, Implicant}
+use Rattle.terms.specs.Term.{has, Agrees, IsTerm}
 use Rattle.terms.specs.declared.Term.{Term}
 use Rattle.terms.proofs.Conjunctions.{conj, conj-l, conj-r, conj-i}
 use Rattle.terms.proofs.Decisions.{choice, to-sides, from-sides}
-use Rattle.terms.proofs.Implicants.{Implicant, Free, implicant-e, implicant-i}
-use Rattle.terms.proofs.Terms.{Agrees, Unmentioned, by-variable, own-agrees, IsTerm}
+use Rattle.terms.proofs.Implicants.{Free, implicant-e, implicant-i}
+use Rattle.terms.proofs.Terms.{Unmentioned, by-variable, own-agrees}
 use Rattle.circuits.specs.Function.{signed, nodeValue, function}
-use Rattle.circuits.specs.Node.{nodeAt, Node, constant, literal, decision, conjunction, unknown}
 use Rattle.circuits.proofs.Accepted.{Accepted}
 use Rattle.circuits.proofs.BottomUp.{from-children}
 use Rattle.circuits.proofs.Nodes.{sides, allOf, function-is, decision-free, signed-not}

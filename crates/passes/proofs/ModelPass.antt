@@ -16,26 +16,27 @@ use Rattle.masks.proofs.Masks.{put-lt}
 use Rattle.masks.proofs.Numbers.{count-ext, count-not}
 use Rattle.masks.proofs.Operators.{bit-or, size-within, disjoint-at}
 use Rattle.masks.proofs.Tests.{and-l, along}
-use Rattle.terms.specs.Term.{has, mentions, variables, literals, isTerm, agrees}
+use Rattle.table.specs.Gate.{gateNode}
+use Rattle.table.specs.Node.{nodeAt, children, Node, constant, literal, decision, conjunction, unknown}
+use Rattle.table.specs.Outcome.{accepted}
+use Rattle.table.specs.Words.{Readable, Sound}
+use Rattle.table.specs.declared.Gate.{Gate}
+use Rattle.table.specs.declared.Gate.the-variants.{Constant, Literal, Decision, Conjunction, Unknown}
+use Rattle.table.proofs.Checking.{range-e}
+use Rattle.terms.specs.Term.{has, mentions, variables, literals, isTerm, agrees, IsTerm}
 use Rattle.terms.specs.declared.Term.{Term}
 use Rattle.terms.proofs.Conjunctions.{conj}
-use Rattle.terms.proofs.Terms.{isTerm-e, IsTerm}
-use Rattle.circuits.specs.Check.{allDisjoint, accepted, check}
+use Rattle.terms.proofs.Terms.{isTerm-e}
+use Rattle.circuits.specs.Check.{allDisjoint, check}
 use Rattle.circuits.specs.Function.{signed, nodeValue, function, union, nodeSupport, support}
-use Rattle.circuits.specs.Gate.{gateNode}
-use Rattle.circuits.specs.Node.{nodeAt, children, Node, constant, literal, decision, conjunction, unknown}
-use Rattle.circuits.specs.declared.Gate.{Gate}
-use Rattle.circuits.specs.declared.Gate.the-variants.{Constant, Literal, Decision, Conjunction, Unknown}
 use Rattle.circuits.proofs.Accepted.{accepted-e, variables-le, variables-wide, Accepted}
 use Rattle.circuits.proofs.BottomUp.{branch-mem}
-use Rattle.circuits.proofs.Nodes.{sides, node-fits, function-is, not-under, decision-free, conjunction-below}
-use Rattle.circuits.proofs.Nodes.{conjunction-disjoint}
+use Rattle.circuits.proofs.Nodes.{sides, node-fits, function-is, not-under, decision-free, conjunction-below, conjunction-disjoint}
 use Rattle.circuits.proofs.Tables.{WellFormed, Fits, fits, children-below, support-of, node-induction}
 use Rattle.passes.specs.Models.{modelsUnder, scaled, ModelPass}
-use Rattle.passes.specs.Tables.{Readable, Holds, Sound}
-use Rattle.passes.proofs.Readable.{range-e, all-two}
-use Rattle.passes.proofs.Under.{models, models-ext, models-le, models-constant, models-agree, models-choice}
-use Rattle.passes.proofs.Under.{models-conjunction}
+use Rattle.passes.specs.Tables.{Holds}
+use Rattle.passes.proofs.Readable.{all-two}
+use Rattle.passes.proofs.Under.{models, models-ext, models-le, models-constant, models-agree, models-choice, models-conjunction}
 
 module _ (N n : ℕ) (w : List ℕ) where
   pub accepted-sound : Accepted N n w → Sound N n w

@@ -7,24 +7,23 @@ use mathlib.Core.List.{List, [], _∷_}
 use native.Mathlib.Nat.{not-suc-le-zero, le-antisymm, lt-of-lt-of-le, lt-irrefl}
 use native.Mathlib.Omega.{arith}
 use native.Mathlib.Numerals.{add-one, sub-one}
-use lib.Dec.{T, leb→le}
 use lib.ListN.{length, getD, set, length-set, replicate, length-replicate}
 use lib.Seq.{getD-set-same, getD-set-other}
 use lib.Bits.{or-zero-r, bitOr}
-use Rattle.masks.proofs.Tests.{and-l, and-r, below-suc}
+use Rattle.masks.proofs.Tests.{below-suc}
+use Rattle.table.specs.Gate.{gateNode}
+use Rattle.table.specs.Node.{nodeWords, nodeAt, Node, constant, literal, decision, conjunction, unknown}
+use Rattle.table.specs.Words.{Readable}
+use Rattle.table.specs.declared.Gate.{Gate}
+use Rattle.table.specs.declared.Gate.the-variants.{Constant, Literal, Decision, Conjunction, Unknown}
 use Rattle.terms.specs.Lists.{all}
 use Rattle.terms.specs.Term.{has}
 use Rattle.terms.specs.declared.Term.{Term}
-use Rattle.circuits.specs.Check.{inRange}
 use Rattle.circuits.specs.Function.{nodeValue, function, union, nodeSupport, support}
-use Rattle.circuits.specs.Gate.{gateNode}
-use Rattle.circuits.specs.Node.{nodeWords, nodeAt, Node, constant, literal, decision, conjunction, unknown}
-use Rattle.circuits.specs.declared.Gate.{Gate}
-use Rattle.circuits.specs.declared.Gate.the-variants.{Constant, Literal, Decision, Conjunction, Unknown}
 use Rattle.circuits.proofs.BottomUp.{Local, from-children, branch-mem, all-local, value-local, support-local}
 use Rattle.circuits.proofs.Tables.{Fits, fits, children-below, function-of, support-of}
 use Rattle.passes.specs.Implied.{nodeImplied, impliedAt}
-use Rattle.passes.specs.Tables.{Readable, Holds}
+use Rattle.passes.specs.Tables.{Holds}
 
 pub implied-local : (t : Term) → Local (nodeImplied t)
 implied-local t (constant b) v v′ h = refl
@@ -34,15 +33,6 @@ implied-local t (decision x a b) v v′ h =
     (h b (branch-mem a b true))
 implied-local t (conjunction cs) v v′ h = all-local cs v v′ h
 implied-local t unknown v v′ h = refl
-
--- what 21 tests
-pub range-e : (N n : ℕ) (w : List ℕ) → T (inRange N n w) → (N ≤ 40) × (1 ≤ n) × (n ≤ 1024) × (nodeWords * n ≤ length w)
-range-e N n w h = (
-  leb→le N 40 (search (and-l, and-r)),
-  leb→le 1 n (search (and-l, and-r)),
-  leb→le n 1024 (search (and-l, and-r)),
-  leb→le (nodeWords * n) (length w) (search (and-l, and-r)),
-)
 
 -- what the reading of node i asks
 

@@ -15,13 +15,13 @@ use Rattle.masks.proofs.Masks.{bit-ext, put-same, put-other, put-lt}
 use Rattle.masks.proofs.Numbers.{count-ext, count-mono, count-all, count-none, count-not}
 use Rattle.masks.proofs.Operators.{bit-and, bit-or, bit-xor}
 use Rattle.masks.proofs.Tests.{decide, is-true, is-false, along, same?}
-use Rattle.terms.specs.Term.{has, mentions, agrees}
+use Rattle.terms.specs.Term.{has, mentions, agrees, Agrees, IsTerm}
 use Rattle.terms.specs.declared.Term.{Term}
 use Rattle.terms.proofs.Conjunctions.{conj}
 use Rattle.terms.proofs.Counts.{count-conjunction, count-decision, count-free, count-agrees}
 use Rattle.terms.proofs.Decisions.{choice}
 use Rattle.terms.proofs.Implicants.{Free}
-use Rattle.terms.proofs.Terms.{Agrees, agrees-e, IsTerm}
+use Rattle.terms.proofs.Terms.{agrees-e}
 
 under : Term → ℕ → ℕ
 under t s = bitOr (t .positive) (bitXor s (bitAnd s (t .negative)))

@@ -2,11 +2,11 @@
 use Prim.Native.Nat.{ℕ}
 use mathlib.Core.Bool.{Bool, true, false, _&&_, cond}
 use mathlib.Core.List.{List}
+use Rattle.table.specs.Node.{Node, constant, literal, decision, conjunction, unknown}
 use Rattle.terms.specs.Lists.{all}
 use Rattle.terms.specs.Term.{has}
 use Rattle.terms.specs.declared.Term.{Term}
 use Rattle.circuits.specs.Function.{ofNode}
-use Rattle.circuits.specs.Node.{Node, constant, literal, decision, conjunction, unknown}
 
 -- whether the term is an implicant of a node, from the same of its children
 abbrev pub nodeImplied : Term → Node → (ℕ → Bool) → Bool

@@ -5,9 +5,10 @@ use mathlib.Core.Bool.{Bool, _&&_}
 use mathlib.Core.List.{List}
 use lib.Dec.{T}
 use Rattle.masks.specs.Numbers.{count}
+use Rattle.table.specs.Outcome.{accepted}
 use Rattle.terms.specs.Term.{literals, isTerm, agrees}
 use Rattle.terms.specs.declared.Term.{Term}
-use Rattle.circuits.specs.Check.{accepted, check}
+use Rattle.circuits.specs.Check.{check}
 use Rattle.circuits.specs.Function.{support}
 use Rattle.passes.specs.Tables.{Holds}
 

@@ -3,21 +3,24 @@ ghost use mathlib.Core.Path.{_≡_};
 ghost use mathlib.Core.Bool.{true, false, _&&_, cond};
 ghost use Prim.Native.Nat.{pred, _+_, _-_, _*_, _/_, _^_, _≤_, _<_};
 ghost use lib.Dec.{T};
+ghost use Rattle.table.specs.Outcome.{accepted};
+ghost use Rattle.table.specs.Words.{Readable};
 ghost use Rattle.terms.specs.Term.{has, isTerm};
+ghost use Rattle.circuits.specs.Check.{check};
 ghost use Rattle.circuits.specs.Function.{function, support};
-ghost use Rattle.circuits.specs.Check.{check, accepted};
-ghost use Rattle.passes.specs.Tables.{Readable, Holds};
 ghost use Rattle.passes.specs.Implied.{impliedAt};
 ghost use Rattle.passes.specs.Models.{modelsUnder, scaled, ModelPass};
-use circuits::Gate;
+ghost use Rattle.passes.specs.Tables.{Holds};
+use table::Gate;
+use table::MAX_NODES;
 use terms::Term;
 
 // The variables under node i, from those under its children.
-fn support_at(words: &[u32], n: usize, i: usize, supports: &[u64; 1024]) -> u64
+fn support_at(words: &[u32], n: usize, i: usize, supports: &[u64; MAX_NODES as usize]) -> u64
     requires { ⌜ Readable n (now words) × (i < n) × Holds 0 (support (now words)) i (now supports) ⌝ }
     ensures { λ r. ⌜ r ≡ support (now (words .entry)) i ⌝ }
 {
-    let g = circuits::gate_at(words, i);
+    let g = table::gate_at(words, i);
     match g {
         Gate::Constant(_) => 0,
         Gate::Literal(_, x) => masks::with_bit(0, x),
@@ -30,11 +33,11 @@ fn support_at(words: &[u32], n: usize, i: usize, supports: &[u64; 1024]) -> u64
 }
 
 // The variables under each of the first n nodes. Cost: a constant number of steps a node.
-pub fn supports(words: &[u32], n: usize) -> [u64; 1024]
+pub fn supports(words: &[u32], n: usize) -> [u64; MAX_NODES as usize]
     requires { ⌜ Readable n (now words) ⌝ }
     ensures { λ r. ⌜ Holds 0 (support (now (words .entry))) n r ⌝ }
 {
-    let mut supports = [0u64; 1024];
+    let mut supports = [0u64; MAX_NODES as usize];
     let mut i = 0;
     while i < n {
         let v = support_at(words, n, i, &supports);
@@ -45,11 +48,11 @@ pub fn supports(words: &[u32], n: usize) -> [u64; 1024]
 }
 
 // Node i's value at the assignment s, from its children's values.
-fn value_at(words: &[u32], n: usize, i: usize, s: u64, values: &[bool; 1024]) -> bool
+fn value_at(words: &[u32], n: usize, i: usize, s: u64, values: &[bool; MAX_NODES as usize]) -> bool
     requires { ⌜ Readable n (now words) × (i < n) × Holds false (λ c. function (now words) c s) i (now values) ⌝ }
     ensures { λ r. ⌜ r ≡ function (now (words .entry)) i s ⌝ }
 {
-    let g = circuits::gate_at(words, i);
+    let g = table::gate_at(words, i);
     match g {
         Gate::Constant(b) => b,
         Gate::Literal(sign, x) => {
@@ -76,7 +79,7 @@ pub fn value(words: &[u32], n: usize, s: u64) -> bool
     requires { ⌜ Readable n (now words) ⌝ }
     ensures { λ r. ⌜ r ≡ function (now (words .entry)) (pred n) s ⌝ }
 {
-    let mut values = [false; 1024];
+    let mut values = [false; MAX_NODES as usize];
     let mut i = 0;
     while i < n {
         let v = value_at(words, n, i, s, &values);
@@ -84,18 +87,6 @@ pub fn value(words: &[u32], n: usize, s: u64) -> bool
         i += 1;
     }
     values[n - 1]
-}
-
-// The literal of x with the given sign is in the term.
-fn has_literal(t: Term, sign: bool, x: u32) -> bool
-    requires { ⌜ x < 64 ⌝ }
-    ensures { λ r. ⌜ r ≡ has t sign x ⌝ }
-{
-    if sign {
-        masks::has_bit(t.positive, x)
-    } else {
-        masks::has_bit(t.negative, x)
-    }
 }
 
 // Of a decision by x: the side that the term's literal of x takes, or both.
@@ -113,14 +104,20 @@ fn both_sides(t: Term, x: u32, low: bool, high: bool) -> bool
 }
 
 // Whether the term is an implicant of node i, from the same of its children.
-fn implied_at(words: &[u32], n: usize, i: usize, t: Term, implied: &[bool; 1024]) -> bool
+fn implied_at(
+    words: &[u32],
+    n: usize,
+    i: usize,
+    t: Term,
+    implied: &[bool; MAX_NODES as usize],
+) -> bool
     requires { ⌜ Readable n (now words) × (i < n) × Holds false (impliedAt (now words) t) i (now implied) ⌝ }
     ensures { λ r. ⌜ r ≡ impliedAt (now (words .entry)) t i ⌝ }
 {
-    let g = circuits::gate_at(words, i);
+    let g = table::gate_at(words, i);
     match g {
         Gate::Constant(b) => b,
-        Gate::Literal(sign, x) => has_literal(t, sign, x),
+        Gate::Literal(sign, x) => terms::has_literal(t, sign, x),
         Gate::Decision(x, a, b) => both_sides(t, x, implied[a as usize], implied[b as usize]),
         Gate::Conjunction(a, b) => implied[a as usize] & implied[b as usize],
         Gate::Unknown => false,
@@ -132,7 +129,7 @@ pub fn implied(words: &[u32], n: usize, t: Term) -> bool
     requires { ⌜ Readable n (now words) ⌝ }
     ensures { λ r. ⌜ r ≡ impliedAt (now (words .entry)) t (pred n) ⌝ }
 {
-    let mut implied = [false; 1024];
+    let mut implied = [false; MAX_NODES as usize];
     let mut i = 0;
     while i < n {
         let v = implied_at(words, n, i, t, &implied);
@@ -182,14 +179,14 @@ fn models_at(
     n: usize,
     i: usize,
     t: Term,
-    supports: &[u64; 1024],
-    models: &[u64; 1024],
+    supports: &[u64; MAX_NODES as usize],
+    models: &[u64; MAX_NODES as usize],
 ) -> u64
     requires { ⌜ ModelPass variables n (now words) t (now supports) × (i < n) ⌝ }
     requires { ⌜ Holds 0 (λ c. scaled variables (function (now words) c) t) i (now models) ⌝ }
     ensures { λ r. ⌜ r ≡ scaled variables (function (now (words .entry)) i) t ⌝ }
 {
-    let g = circuits::gate_at(words, i);
+    let g = table::gate_at(words, i);
     match g {
         Gate::Constant(b) => constant_models(variables, b),
         Gate::Literal(sign, x) => {
@@ -211,7 +208,7 @@ pub fn models_under(words: &[u32], variables: u32, n: usize, t: Term) -> u64
     ensures { λ r. ⌜ r ≡ modelsUnder variables (function (now (words .entry)) (pred n)) t ⌝ }
 {
     let supports = supports(words, n);
-    let mut models = [0u64; 1024];
+    let mut models = [0u64; MAX_NODES as usize];
     let mut i = 0;
     while i < n {
         let v = models_at(words, variables, n, i, t, &supports, &models);

@@ -3,11 +3,13 @@ use Prim.Native.Nat.{ℕ, zero, suc, _*_, _+_}
 use mathlib.Core.Path.{_≡_, refl, ap}
 use mathlib.Core.Bool.{Bool, true, false, _&&_, cond}
 use mathlib.Core.List.{List, [], _∷_}
-use lib.Dec.{leb, eqb}
+use lib.Dec.{leb, eqb, ltb}
 use lib.ListN.{length, take, drop}
 use native.Mathlib.Nat.{le-of-eq, not-suc-le-zero}
 use borrow.Author.Tests.{eq-eqb, ne-eqb, eqb-true}
-use Rattle.primes.specs.Listing.{viewed}
+use Rattle.table.specs.Node.{maxNodes}
+use Rattle.lists.specs.Capacity.{maxCapacity}
+use Rattle.listing.specs.Listing.{viewed}
 use Rattle.quelbrift.specs.Boundary.{placed}
 
 pub placed-none : (R i : ℕ) (l : List ℕ) → length l ≡ 0 → placed R i l ≡ (0, 0)
@@ -31,7 +33,7 @@ none-is s (x ∷ l) e = absurd (not-suc-le-zero (le-of-eq e))
 
 -- the offset and the length name the part that the view hands back
 pub view-is : (s : List ℕ) (R i c : ℕ) → found s (placed R i (viewed s R i c)) ≡ viewed s R i c
-view-is s R i c = go (leb i 1023 && leb R 4096 && leb c R && leb (i * R + c) (length s)) where
+view-is s R i c = go (ltb i maxNodes && leb R maxCapacity && leb c R && leb (i * R + c) (length s)) where
   part : List ℕ
   part = take c (drop (i * R) s)
 

@@ -1,7 +1,7 @@
 -- From an operation's answer to the answer at the boundary.
 use Prim.Native.Nat.{ℕ}
 use mathlib.Core.Path.{_≡_, sym, ap, _∙_}
-use Rattle.circuits.specs.Outcome.{Outcome}
+use Rattle.table.specs.Outcome.{Outcome}
 use Rattle.quelbrift.specs.Boundary.{answerOf}
 use Rattle.quelbrift.specs.declared.answer.Answer.{Answer}
 

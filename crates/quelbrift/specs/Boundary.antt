@@ -4,8 +4,8 @@ use mathlib.Core.Bool.{Bool, cond}
 use mathlib.Core.List.{List}
 use lib.Dec.{eqb}
 use lib.ListN.{length}
+use Rattle.table.specs.Outcome.{Outcome, answered, refused}
 use Rattle.terms.specs.declared.Term.{Term}
-use Rattle.circuits.specs.Outcome.{Outcome, answered, refused}
 use Rattle.quelbrift.specs.declared.answer.Answer.{Answer}
 
 abbrev pub doneWith : ℕ → ℕ → Answer

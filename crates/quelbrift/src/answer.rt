@@ -1,13 +1,13 @@
 // The answer of every exported function, in numbers.
 ghost use mathlib.Core.Path.{_≡_};
 ghost use mathlib.Core.Bool.{cond};
-ghost use Rattle.circuits.specs.Outcome.{numberOf, nodeOf};
+ghost use Rattle.table.specs.Outcome.{numberOf, nodeOf};
 ghost use Rattle.quelbrift.specs.Boundary.{doneWith, refusedAt};
-use circuits::Refusal;
-use circuits::node_of;
-use circuits::number_of;
+use table::Refusal;
+use table::node_of;
+use table::number_of;
 
-// 0, or the papers' number of a refusal with its place, node or needed length; and up to two values.
+// 0, or the scope's number of a refusal with its place, node or needed length; and up to two values.
 #[repr(C)]
 pub struct Answer {
     pub number: u32,

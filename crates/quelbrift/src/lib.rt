@@ -2,14 +2,14 @@
 // include/quelbrift.h says what each takes, answers and leaves in each buffer.
 ghost use mathlib.Core.Path.{_≡_};
 ghost use lib.ListN.{length};
-ghost use Rattle.circuits.specs.Check.{check};
-ghost use Rattle.circuits.specs.Outcome.{answered};
+ghost use Rattle.table.specs.Outcome.{answered};
 ghost use Rattle.text.specs.AssignmentLine.{readAssignment};
 ghost use Rattle.text.specs.Read.{readText};
 ghost use Rattle.text.specs.Write.{writeTable};
+ghost use Rattle.circuits.specs.Check.{check};
 ghost use Rattle.queries.specs.Answers.{tested};
 ghost use Rattle.queries.specs.Queries.{evaluation, modelCount, implicantTest, primeTest, reduction};
-ghost use Rattle.primes.specs.Listing.{listTable, viewed};
+ghost use Rattle.listing.specs.Listing.{lent, listTable, viewed};
 ghost use Rattle.quelbrift.specs.Boundary.{answerOf, nothing, number, numbers, truth, masks, placed};
 
 mod answer;
@@ -19,12 +19,12 @@ use answer::done;
 use answer::done_truth;
 use answer::refused;
 use answer::refused_by;
-use primes::Listing;
-use queries::Checked;
+use listing::Listing;
 use queries::Counted;
 use queries::Evaluation;
 use queries::Reduction;
 use queries::Tested;
+use table::Checked;
 use terms::Term;
 use text::answer::AssignmentReading;
 use text::answer::Reading;
@@ -57,7 +57,7 @@ pub extern "C" fn quelbrift_write(
     match text_writer::writer::write(words, variables, nodes, sink) {
         Written::Done(length) => done(length as u64, 0),
         Written::Refused(why) => refused_by(why),
-        Written::Short(length) => refused(16, length as u64),
+        Written::Sink(length) => refused(16, length as u64),
     }
 }
 
@@ -66,7 +66,7 @@ pub extern "C" fn quelbrift_write(
 pub extern "C" fn quelbrift_check(words: &[u32], variables: u32, nodes: u32) -> Answer
     ensures { λ r. ⌜ r ≡ answerOf nothing (check variables nodes (now (words .entry))) ⌝ }
 {
-    match queries::check(words, variables, nodes) {
+    match checks::check(words, variables, nodes) {
         Checked::Accepted => done(0, 0),
         Checked::Refused(why) => refused_by(why),
     }
@@ -167,15 +167,15 @@ pub extern "C" fn quelbrift_list(
     counts: &mut [u32],
 ) -> Answer
     ensures { λ r. ⌜ r ≡ answerOf nothing (listTable variables nodes (now (words .entry)) capacity
-        (now (positives .entry)) (now (negatives .entry)) (now (counts .entry)) .answer) ⌝ }
+        (lent (now (positives .entry)) (now (negatives .entry)) (now (counts .entry))) .answer) ⌝ }
     ensures { λ _. ⌜ now (positives .exit) ≡ listTable variables nodes (now (words .entry)) capacity
-        (now (positives .entry)) (now (negatives .entry)) (now (counts .entry)) .positives ⌝ }
+        (lent (now (positives .entry)) (now (negatives .entry)) (now (counts .entry))) .after .positives ⌝ }
     ensures { λ _. ⌜ now (negatives .exit) ≡ listTable variables nodes (now (words .entry)) capacity
-        (now (positives .entry)) (now (negatives .entry)) (now (counts .entry)) .negatives ⌝ }
+        (lent (now (positives .entry)) (now (negatives .entry)) (now (counts .entry))) .after .negatives ⌝ }
     ensures { λ _. ⌜ now (counts .exit) ≡ listTable variables nodes (now (words .entry)) capacity
-        (now (positives .entry)) (now (negatives .entry)) (now (counts .entry)) .counts ⌝ }
+        (lent (now (positives .entry)) (now (negatives .entry)) (now (counts .entry))) .after .counts ⌝ }
 {
-    match primes::list(
+    match listing::list(
         positives,
         negatives,
         counts,
@@ -194,7 +194,7 @@ pub extern "C" fn quelbrift_list(
 pub extern "C" fn quelbrift_view(buffer: &[u64], capacity: u32, node: u32, count: u32) -> Answer
     ensures { λ r. ⌜ r ≡ answerOf (placed capacity node) (answered (viewed (now (buffer .entry)) capacity node count)) ⌝ }
 {
-    let part = primes::view(buffer, capacity, node, count);
+    let part = listing::view(buffer, capacity, node, count);
     if part.len() == 0 {
         return done(0, 0);
     }
@@ -208,8 +208,8 @@ pub extern "C" fn quelbrift_read_assignment(line: &[u8], variables: u32) -> Answ
 {
     match text_assignment::assignment::read_assignment(line, variables) {
         AssignmentReading::Assignment(mask) => done(mask, 0),
-        AssignmentReading::Variables => refused(21, 0),
-        AssignmentReading::Misshapen(place) => refused(51, place as u64),
-        AssignmentReading::Misplaced(place) => refused(52, place as u64),
+        AssignmentReading::Sizes => refused(21, 0),
+        AssignmentReading::LineShape(place) => refused(51, place as u64),
+        AssignmentReading::LineOrder(place) => refused(52, place as u64),
     }
 }

@@ -1,5 +1,4 @@
--- What the operations answer once the table was checked.
--- ---- a refusal of the check stands; after acceptance the rest decides
+-- An accepted circuit: the implicant test, the model count and the literals struck.
 use Prim.Native.Nat.{ℕ, zero, suc, pred, _+_, _^_, _<_, _≤_}
 use mathlib.Core.Path.{_≡_, refl, sym, ap, ap₂, subst, _∙_}
 use mathlib.Core.Bool.{Bool, true, false, _&&_, not, cond}
@@ -12,40 +11,19 @@ use Rattle.masks.specs.Mask.{bit}
 use Rattle.masks.specs.Numbers.{implied, every, count}
 use Rattle.masks.proofs.Numbers.{every-e, count-ext}
 use Rattle.masks.proofs.Operators.{bit-or}
-use Rattle.masks.proofs.Tests.{not-not, is-true, is-false, along}
+use Rattle.masks.proofs.Tests.{is-true, is-false, along}
+use Rattle.table.specs.Outcome.{accepted}
 use Rattle.terms.specs.Prime.{implicant, prime, reduce}
 use Rattle.terms.specs.Term.{empty, mentions, variables, isTerm, agrees, without, extend}
 use Rattle.terms.specs.declared.Term.{Term}
 use Rattle.terms.proofs.Terms.{empty-has, without-isTerm, isTerm-e, isTerm-i, agrees-i}
-use Rattle.circuits.specs.Check.{accepted, check}
-use Rattle.circuits.specs.Outcome.{after, refusedBy, Outcome}
-use Rattle.circuits.specs.declared.Refusal.{Refusal}
+use Rattle.circuits.specs.Check.{check}
 use Rattle.circuits.proofs.Accepted.{accepted-e, variables-le}
 use Rattle.passes.specs.Implied.{impliedAt}
 use Rattle.passes.specs.Models.{modelsUnder}
 use Rattle.passes.proofs.ImplicantPass.{implied-is}
 use Rattle.passes.proofs.ModelPass.{accepted-readable}
-use Rattle.queries.specs.Answers.{checked}
 use Rattle.queries.specs.Queries.{circuit, assignmentTerm}
-use Rattle.queries.specs.declared.Checked.{Checked}
-
-module _ {chk : Outcome (Unit {0})} {c : Checked} (e : checked c ≡ chk) where
-  pub refusal-stands : {A : Type 0} {r : Refusal} (o : Outcome A) → c ≡ Checked.Refused r → refusedBy r ≡ after chk o
-  refusal-stands o d = ap (λ (z : Outcome (Unit {0})). after z o) (sym (ap checked d) ∙ e)
-
-  pub goes-on : c ≡ Checked.Accepted → chk ≡ accepted
-  goes-on d = sym e ∙ ap checked d
-
-module _ {A : Type 0} {chk : Outcome (Unit {0})} (e : chk ≡ accepted) where
-  pub after-accepted : (o : Outcome A) → o ≡ after chk o
-  after-accepted o = ap (λ (z : Outcome (Unit {0})). after z o) (sym e)
-
-  -- a test that passes, and one that fails
-  pub test-passed : {b : Bool} (o p : Outcome A) → b ≡ true → o ≡ after chk (cond b o p)
-  test-passed {b} o p d = sym (ap (λ (t : Bool). cond t o p) d) ∙ after-accepted (cond b o p)
-
-  pub test-failed : {b : Bool} (o p : Outcome A) → b ≡ false → p ≡ after chk (cond b o p)
-  test-failed {b} o p d = sym (ap (λ (t : Bool). cond t o p) d) ∙ after-accepted (cond b o p)
 
 -- ---- an accepted circuit
 module _ (N n : ℕ) (w : List ℕ) (e : check N n w ≡ accepted) where
@@ -152,10 +130,3 @@ pub term-next : (s k : ℕ) (t u : Term) (b : Bool) → t ≡ assignmentTerm s k
     → u ≡ assignmentTerm s (k + 1)
 unfolding assignmentTerm
 term-next s k t u b e d h = h ∙ ap₂ (λ (z : Term) (c : Bool). extend z k c) e d ∙ ap (assignmentTerm s) (sym (add-one k))
-
--- ---- what a negated test says
-pub was-false : (b : Bool) → not b ≡ true → b ≡ false
-was-false b e = is-false b (along (sym e) tt)
-
-pub was-true : (b : Bool) → not b ≡ false → b ≡ true
-was-true b e = is-true b (not-not b (along (ap not (sym e)) tt))

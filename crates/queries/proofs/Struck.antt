@@ -9,11 +9,11 @@ use lib.Dec.{T}
 use Rattle.masks.specs.Mask.{bit}
 use Rattle.masks.proofs.Masks.{bit-ext}
 use Rattle.masks.proofs.Tests.{along, below-suc}
-use Rattle.terms.specs.Prime.{prime, reduce}
-use Rattle.terms.specs.Term.{has, isTerm, agrees, extend}
-use Rattle.terms.proofs.Implicants.{prime-i, reduce-prime, Prime}
-use Rattle.terms.proofs.Terms.{Agrees, Unmentioned, extend-here, extend-there, empty-has, agrees-inside, has-below, empty-isTerm}
-use Rattle.terms.proofs.Terms.{extend-isTerm, isTerm-i, agrees-i, IsTerm}
+use Rattle.terms.specs.Prime.{reduce, Prime}
+use Rattle.terms.specs.Term.{has, isTerm, extend, Agrees, IsTerm}
+use Rattle.terms.proofs.Implicants.{reduce-prime}
+use Rattle.terms.proofs.Terms.{Unmentioned, extend-here, extend-there, empty-has, agrees-inside, has-below, empty-isTerm, extend-isTerm}
+use Rattle.terms.proofs.Terms.{isTerm-i}
 use Rattle.queries.specs.Queries.{assignmentTerm}
 
 term-unmentioned : (s k x : ℕ) → k ≤ x → Unmentioned (assignmentTerm s k) x
@@ -63,10 +63,3 @@ module _ (N : ℕ) (f : ℕ → Bool) (s : ℕ) (l : s < 2 ^ N) where
       reduce-prime N f (assignmentTerm s N) (term-isTerm N s N (le-refl N))
       (λ r k a. subst (λ (z : ℕ). T (f z)) (sym (term-only r k a)) h) in
       (p, agrees-inside (reduce N f (assignmentTerm s N) N) (assignmentTerm s N) s i term-agrees)
-
-  -- the same by the tests of the definitions
-  pub reduction-tests : T (f s)
-      → T (prime N f (reduce N f (assignmentTerm s N) N)) × T (agrees N (reduce N f (assignmentTerm s N) N) s)
-  reduction-tests h =
-      let (p, a) = reduction-prime h in
-      (prime-i N f (reduce N f (assignmentTerm s N) N) p, agrees-i N (reduce N f (assignmentTerm s N) N) s a)

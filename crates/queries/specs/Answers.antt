@@ -1,17 +1,12 @@
--- The answers of the operations, in the papers' numbers.
+-- The answers of the operations, in the scope's numbers.
 use Prim.Native.Nat.{ℕ}
 use mathlib.Core.Bool.{Bool}
+use Rattle.table.specs.Outcome.{Outcome, answered, refusedBy}
 use Rattle.terms.specs.declared.Term.{Term}
-use Rattle.circuits.specs.Outcome.{Outcome, answered, refusedBy}
-use Rattle.queries.specs.declared.Checked.{Checked}
-use Rattle.queries.specs.declared.Evaluation.{Evaluation}
 use Rattle.queries.specs.declared.Counted.{Counted}
-use Rattle.queries.specs.declared.Tested.{Tested}
+use Rattle.queries.specs.declared.Evaluation.{Evaluation}
 use Rattle.queries.specs.declared.Reduction.{Reduction}
-
-abbrev pub checked : Checked → Outcome (Unit {0})
-checked Checked.Accepted = answered tt
-checked (Checked.Refused r) = refusedBy r
+use Rattle.queries.specs.declared.Tested.{Tested}
 
 -- the verdict
 abbrev pub evaluated : Evaluation → Outcome Bool

@@ -1,21 +1,15 @@
-// Questions to a circuit: the check of its table, evaluation, model count, tests of a term, and reduction.
+// Questions to a circuit: evaluation, model count, tests of a term, and reduction.
 ghost use mathlib.Core.Path.{_≡_};
-ghost use Rattle.circuits.specs.Check.{check};
-ghost use Rattle.queries.specs.Answers.{checked, evaluated, counted, tested, reduced};
+ghost use Rattle.queries.specs.Answers.{evaluated, counted, tested, reduced};
 ghost use Rattle.queries.specs.Queries.{evaluation, modelCount, implicantTest, primeTest, reduction};
 
-mod faults;
 mod primes;
 
-use circuits::Refusal;
+use table::Checked;
+use table::Refusal;
 use terms::Term;
 
-// The answers; specs/Answers.antt has the papers' numbers.
-pub enum Checked {
-    Accepted,
-    Refused(Refusal),
-}
-
+// The answers; specs/Answers.antt has the scope's numbers.
 // The verdict for a stow.
 pub enum Evaluation {
     Value(bool),
@@ -40,47 +34,13 @@ pub enum Reduction {
     Refused(Refusal),
 }
 
-// The check of a table: 21 to 25 in order, each with its lowest node. Cost: a constant number of steps a node.
-pub fn check(words: &[u32], variables: u32, nodes: u32) -> Checked
-    ensures { λ r. ⌜ checked r ≡ check variables nodes (now (words .entry)) ⌝ }
-{
-    if !circuits::table::in_range(words, variables, nodes) {
-        return Checked::Refused(Refusal::Range);
-    }
-    let n = nodes as usize;
-    let i = circuits::table::first_malformed(words, variables, n);
-    if i < n {
-        return Checked::Refused(Refusal::Malformed(i as u32));
-    }
-    let j = faults::first_parentless(words, n);
-    if j < n {
-        return Checked::Refused(Refusal::Parentless(j as u32));
-    }
-    let k = faults::first_undecomposable(words, n);
-    if k < n {
-        return Checked::Refused(Refusal::Undecomposable(k as u32));
-    }
-    let l = faults::first_unreduced(words, n);
-    if l < n {
-        return Checked::Refused(Refusal::Unreduced(l as u32));
-    }
-    Checked::Accepted
-}
-
 // The circuit's value at an assignment. Cost: that of the check, and a constant number of steps a node.
 pub fn evaluate(words: &[u32], variables: u32, nodes: u32, assignment: u64) -> Evaluation
     ensures { λ r. ⌜ evaluated r ≡ evaluation variables nodes (now (words .entry)) assignment ⌝ }
 {
-    let c = check(words, variables, nodes);
-    match c {
+    match checks::check_assignment(words, variables, nodes, assignment) {
         Checked::Refused(why) => Evaluation::Refused(why),
-        Checked::Accepted => {
-            if masks::is_within(assignment, variables) {
-                Evaluation::Value(passes::value(words, nodes as usize, assignment))
-            } else {
-                Evaluation::Refused(Refusal::Assignment)
-            }
-        }
+        Checked::Accepted => Evaluation::Value(passes::value(words, nodes as usize, assignment)),
     }
 }
 
@@ -88,14 +48,10 @@ pub fn evaluate(words: &[u32], variables: u32, nodes: u32, assignment: u64) -> E
 pub fn count_models(words: &[u32], variables: u32, nodes: u32) -> Counted
     ensures { λ r. ⌜ counted r ≡ modelCount variables nodes (now (words .entry)) ⌝ }
 {
-    let c = check(words, variables, nodes);
-    match c {
+    match checks::check(words, variables, nodes) {
         Checked::Refused(why) => Counted::Refused(why),
         Checked::Accepted => {
-            let all = Term {
-                positive: 0,
-                negative: 0,
-            };
+            let all = terms::EMPTY;
             Counted::Models(passes::models_under(words, variables, nodes as usize, all))
         }
     }
@@ -105,16 +61,9 @@ pub fn count_models(words: &[u32], variables: u32, nodes: u32) -> Counted
 pub fn implies(words: &[u32], variables: u32, nodes: u32, t: Term) -> Tested
     ensures { λ r. ⌜ tested r ≡ implicantTest variables nodes (now (words .entry)) t ⌝ }
 {
-    let c = check(words, variables, nodes);
-    match c {
+    match checks::check_term(words, variables, nodes, t) {
         Checked::Refused(why) => Tested::Refused(why),
-        Checked::Accepted => {
-            if terms::is_term(t, variables) {
-                Tested::Answer(passes::implied(words, nodes as usize, t))
-            } else {
-                Tested::Refused(Refusal::NotTerm)
-            }
-        }
+        Checked::Accepted => Tested::Answer(passes::implied(words, nodes as usize, t)),
     }
 }
 
@@ -122,15 +71,10 @@ pub fn implies(words: &[u32], variables: u32, nodes: u32, t: Term) -> Tested
 pub fn is_prime(words: &[u32], variables: u32, nodes: u32, t: Term) -> Tested
     ensures { λ r. ⌜ tested r ≡ primeTest variables nodes (now (words .entry)) t ⌝ }
 {
-    let c = check(words, variables, nodes);
-    match c {
+    match checks::check_term(words, variables, nodes, t) {
         Checked::Refused(why) => Tested::Refused(why),
         Checked::Accepted => {
-            if terms::is_term(t, variables) {
-                Tested::Answer(primes::is_prime_of(words, variables, nodes as usize, t))
-            } else {
-                Tested::Refused(Refusal::NotTerm)
-            }
+            Tested::Answer(primes::is_prime_of(words, variables, nodes as usize, t))
         }
     }
 }
@@ -140,14 +84,10 @@ pub fn is_prime(words: &[u32], variables: u32, nodes: u32, t: Term) -> Tested
 pub fn reduce(words: &[u32], variables: u32, nodes: u32, assignment: u64) -> Reduction
     ensures { λ r. ⌜ reduced r ≡ reduction variables nodes (now (words .entry)) assignment ⌝ }
 {
-    let c = check(words, variables, nodes);
-    match c {
+    match checks::check_assignment(words, variables, nodes, assignment) {
         Checked::Refused(why) => Reduction::Refused(why),
         Checked::Accepted => {
             let n = nodes as usize;
-            if !masks::is_within(assignment, variables) {
-                return Reduction::Refused(Refusal::Assignment);
-            }
             if !passes::value(words, n, assignment) {
                 return Reduction::Refused(Refusal::Unsatisfied);
             }

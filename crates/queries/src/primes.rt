@@ -4,9 +4,10 @@ ghost use mathlib.Core.Bool.{_&&_, not, cond};
 ghost use Prim.Native.Nat.{_≤_, _<_};
 ghost use lib.Dec.{T};
 ghost use Rattle.masks.specs.Numbers.{implied, every};
-ghost use Rattle.terms.specs.Term.{mentions, isTerm, without};
+ghost use Rattle.table.specs.Outcome.{accepted};
 ghost use Rattle.terms.specs.Prime.{implicant, prime, reduce};
-ghost use Rattle.circuits.specs.Check.{check, accepted};
+ghost use Rattle.terms.specs.Term.{mentions, isTerm, without};
+ghost use Rattle.circuits.specs.Check.{check};
 ghost use Rattle.queries.specs.Queries.{circuit, assignmentTerm};
 use terms::Term;
 
@@ -53,10 +54,7 @@ pub fn term_of(assignment: u64, variables: u32) -> Term
     requires { ⌜ variables ≤ 40 ⌝ }
     ensures { λ r. ⌜ r ≡ assignmentTerm assignment variables ⌝ }
 {
-    let mut t = Term {
-        positive: 0,
-        negative: 0,
-    };
+    let mut t = terms::EMPTY;
     let mut k = 0;
     while k < variables {
         t = terms::extend(t, k, masks::has_bit(assignment, k));

@@ -1,5 +1,4 @@
 // Asks every question of small circuits and of the one on standard input, and prints the answers.
-use circuits::Refusal;
 use console::print;
 use libc::STDIN_FILENO;
 use libc::STDOUT_FILENO;
@@ -9,8 +8,12 @@ use queries::Counted;
 use queries::Evaluation;
 use queries::Reduction;
 use queries::Tested;
+use table::MAX_NODES;
+use table::NODE_WORDS;
+use table::Refusal;
 use terms::Term;
 use text::answer::Reading;
+use text::limits::MAX_BYTES;
 
 fn print_refusal(why: Refusal) {
     let mut line = [0u8; 512];
@@ -73,7 +76,7 @@ fn reduce(words: &[u32], variables: u32, nodes: u32, assignment: u64) {
 
 // Asks the questions of the circuit of a text, with one assignment and one term.
 fn ask(text: &[u8], assignment: u64, positive: u64, negative: u64) {
-    let mut words = [0u32; 4096];
+    let mut words = [0u32; NODE_WORDS * (MAX_NODES as usize)];
     match text_reader::reader::read(text, &mut words) {
         Reading::Refused(fault, place) => {
             let mut line = [0u8; 512];
@@ -128,7 +131,7 @@ fn larger_circuits() {
 fn main() {
     smallest_circuits();
     larger_circuits();
-    let mut text = [0u8; 40001];
+    let mut text = [0u8; MAX_BYTES + 1];
     let length = io::read_full(STDIN_FILENO, &mut text);
     ask(&text[..length], 0, 0, 0);
 }

@@ -4,12 +4,12 @@ use mathlib.Core.Bool.{Bool, true, false, _&&_, cond}
 use mathlib.Core.List.{List, [], _∷_}
 use lib.Dec.{eqb}
 use lib.ListN.{replicate}
+use Rattle.table.specs.Outcome.{Outcome, answered, refused}
 use Rattle.terms.specs.Lists.{all}
 use Rattle.terms.specs.declared.Term.{Term}
 use Rattle.circuits.specs.Check.{check}
-use Rattle.circuits.specs.Outcome.{Outcome, answered, refused}
 use Rattle.queries.specs.Queries.{modelCount}
-use Rattle.primes.specs.Listing.{nodePrimes, listing}
+use Rattle.listing.specs.Listing.{nodePrimes, lent, listTable}
 
 pub data Known : Type 0 where
   -- it is refused, with this number and node
@@ -39,7 +39,7 @@ isCount m (refused k i) = false
 abbrev fits : ℕ → ℕ → List ℕ → ℕ → Bool → Bool
 fits N n w R enough =
     let rows : List ℕ = replicate (n * R) 7 in
-    let answer : Outcome (Unit {0}) = listing N n w R rows rows (replicate n 7) in
+    let answer : Outcome (Unit {0}) = listTable N n w R (lent rows rows (replicate n 7)) .answer in
     cond enough (isAccepted answer) (refusedAs 42 0 answer)
 
 -- of a table of n nodes over N variables; the circuit is the last node

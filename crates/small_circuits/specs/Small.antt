@@ -3,11 +3,11 @@ use Prim.Native.String.{String}
 use Prim.Native.Nat.{ℕ}
 use mathlib.Core.Bool.{Bool, true, false}
 use mathlib.Core.List.{List, [], _∷_}
-use Rattle.terms.specs.Term.{term}
-use Rattle.small_circuits.specs.Known.{holds, Known, fault, accepts}
-use Rattle.circuits.specs.Outcome.{Outcome, answered, refused}
+use Rattle.table.specs.Outcome.{Outcome, answered, refused}
 use Rattle.text.specs.Ascii.{ascii}
 use Rattle.text.specs.Read.{readText, ReadOut}
+use Rattle.terms.specs.Term.{term}
+use Rattle.small_circuits.specs.Known.{holds, Known, fault, accepts}
 
 -- a circuit text, and what is known of the circuit
 pub record SmallCircuit : Type 0 where
@@ -40,7 +40,7 @@ small =
     -- P9
     ∷ circuit "(circuit 3)\n(pick 0 (no 1) (pick 1 (yes 2) (true)))\n"
     (accepts (term 0 3 ∷ term 3 0 ∷ term 5 0 ∷ term 4 2 ∷ []) 5 ((3, false) ∷ (4, true) ∷ []))
-    -- P10 to P12: v3, v2 and v1 of Example 1 in source document 000, with b, e, p, s as variables 0 to 3
+    -- P10 to P12: v3, v2 and v1 of Example 1 in the article, with b, e, p, s as variables 0 to 3
     ∷ circuit "(circuit 4)\n(pick 3 (true) (yes 2))\n" (accepts (term 4 0 ∷ term 0 8 ∷ []) 12 [])
     ∷ circuit "(circuit 4)\n(pick 0 (pick 3 (true) (yes 2)) (no 2))\n"
     (accepts (term 1 4 ∷ term 4 1 ∷ term 0 9 ∷ term 0 12 ∷ []) 10 [])

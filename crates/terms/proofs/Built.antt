@@ -3,8 +3,8 @@ use Prim.Native.Nat.{ℕ, _<_, _≤_}
 use mathlib.Core.Path.{_≡_, refl, sym, ap, subst, _∙_}
 use mathlib.Core.Bool.{Bool, true, false, _&&_, not, true≢false}
 use mathlib.Core.Logic.{_⊎_, inl, inr, ⊎-elim}
-use mathlib.Core.List.{List, [], _∷_, _++_, map, List·Memᴰ, List·Memᴰ·head, List·Memᴰ·tail, List·Memᴰ·not-nil}
-use mathlib.Core.List.{List·Memᴰ·cases-cons, List·Memᴰ·append-cases, Memᴰ·append-left, Memᴰ·append-right, Memᴰ·cast}
+use mathlib.Core.List.{List, [], _∷_, _++_, List·Memᴰ, List·Memᴰ·head, List·Memᴰ·tail, List·Memᴰ·not-nil, List·Memᴰ·cases-cons}
+use mathlib.Core.List.{List·Memᴰ·append-cases, Memᴰ·append-left, Memᴰ·append-right, Memᴰ·cast}
 use native.Mathlib.Nat.{lt-of-lt-of-le}
 use native.Mathlib.Omega.{arith}
 use lib.Dec.{T, T-not, not-T, ltb, ltb→lt, nltb→le}
@@ -14,31 +14,24 @@ use Rattle.masks.specs.Numbers.{count}
 use Rattle.masks.proofs.Numbers.{count-ext, count-less}
 use Rattle.masks.proofs.Operators.{bit-or, disjoint-e, disjoint-i}
 use Rattle.masks.proofs.Tests.{and-i, and-l, and-r, or-cases, not-not, decide}
+use Rattle.terms.specs.Joins.{joinsWith, holdsOne, extended}
 use Rattle.terms.specs.Lists.{any, keep}
-use Rattle.terms.specs.Prime.{reduce}
-use Rattle.terms.specs.Term.{has, mentions, variables, literals, without, extend, join, inside, conflict}
+use Rattle.terms.specs.Prime.{reduce, Implicant, Prime}
+use Rattle.terms.specs.Term.{has, mentions, variables, literals, without, extend, join, inside, conflict, IsTerm}
 use Rattle.terms.specs.declared.Term.{Term}
 use Rattle.terms.proofs.Conjunctions.{conj, joined-isTerm, joined-least, prime-joined, joined-prime, apart-prime, Joined}
 use Rattle.terms.proofs.Decisions.{choice, with-literal, no-literal, meet-prime, one-side}
-use Rattle.terms.proofs.Implicants.{Implicant, Free, implicant-more, reduce-prime, Prime}
+use Rattle.terms.proofs.Implicants.{Free, implicant-more, reduce-prime}
 use Rattle.terms.proofs.Listed.{Lists}
 use Rattle.terms.proofs.Sorted.{keep-out, keep-in, any-i, any-e, map-in, map-out}
-use Rattle.terms.proofs.Terms.{Inside, Unmentioned, mentions-i, join-l, join-r, has-below, join-isTerm, extend-without}
-use Rattle.terms.proofs.Terms.{inside-e, inside-i, IsTerm}
+use Rattle.terms.proofs.Terms.{Inside, Unmentioned, mentions-i, join-l, join-r, has-below, join-isTerm, extend-without, inside-e}
+use Rattle.terms.proofs.Terms.{inside-i}
 
 -- ---- the lists
--- the terms of the list without a conflict with t, joined with it
-abbrev pub joinsWith : Term → List Term → List Term
-joinsWith t us = map (join t) (keep (λ u. not (conflict t u)) us)
-
 -- each term of the one list joined with each of the other
 abbrev pub joins : List Term → List Term → List Term
 joins [] us = []
 joins (t ∷ ts) us = joinsWith t us ++ joins ts us
-
--- some term of the list is inside t
-abbrev pub holdsOne : List Term → Term → Bool
-holdsOne us t = any (λ u. inside u t) us
 
 -- some term of the list is inside t and has fewer literals
 abbrev pub holdsShorter : List Term → Term → Bool
@@ -47,10 +40,6 @@ holdsShorter us t = any (λ u. inside u t && ltb (literals u) (literals t)) us
 -- the terms of the list with no shorter one of it inside
 unfoldable pub leastOf : List Term → List Term
 leastOf l = keep (λ t. not (holdsShorter l t)) l
-
--- the terms of one side with none of the other side inside, extended by the literal of x of sign b
-unfoldable pub extended : ℕ → Bool → List Term → List Term → List Term
-extended x b other l = map (λ t. extend t x b) (keep (λ t. not (holdsOne other t)) l)
 
 -- the terms of a decision by x, from the terms of its sides
 unfoldable pub decisionTerms : ℕ → List Term → List Term → List Term

@@ -6,13 +6,12 @@ use mathlib.Core.Bool.{Bool, _&&_}
 use mathlib.Core.Logic.{_⊎_, ⊎-elim}
 use lib.Dec.{T}
 use Rattle.masks.proofs.Tests.{and-i, and-l, and-r}
-use Rattle.terms.specs.Prime.{reduce}
-use Rattle.terms.specs.Term.{has, without, join}
+use Rattle.terms.specs.Prime.{reduce, Implicant, Prime}
+use Rattle.terms.specs.Term.{has, without, join, IsTerm}
 use Rattle.terms.specs.declared.Term.{Term}
-use Rattle.terms.proofs.Implicants.{Implicant, Free, implicant-more, prime-least, least-same, reduce-prime}
-use Rattle.terms.proofs.Implicants.{free-unmentioned, Prime}
+use Rattle.terms.proofs.Implicants.{Free, implicant-more, prime-least, least-same, reduce-prime, free-unmentioned}
 use Rattle.terms.proofs.Terms.{Inside, without-here, join-cases, inside-trans, without-inside, join-l, join-r, join-least}
-use Rattle.terms.proofs.Terms.{has-below, without-isTerm, join-isTerm, join-within, IsTerm}
+use Rattle.terms.proofs.Terms.{has-below, without-isTerm, join-isTerm, join-within}
 
 module _ (N : ℕ) where
   abbrev pub conj : (ℕ → Bool) → (ℕ → Bool) → ℕ → Bool

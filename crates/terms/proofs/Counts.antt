@@ -13,12 +13,11 @@ use Rattle.masks.specs.Numbers.{digit, implied, every, count}
 use Rattle.masks.proofs.Masks.{digit-lt, odd-digit, double-lt, bit-low, bit-rest}
 use Rattle.masks.proofs.Numbers.{every-first, count-ext, count-first, count-none}
 use Rattle.masks.proofs.Tests.{or-l, or-r, along}
-use Rattle.terms.specs.Term.{has, mentions, agrees}
+use Rattle.terms.specs.Term.{has, mentions, agrees, IsTerm}
 use Rattle.terms.specs.declared.Term.{Term}
 use Rattle.terms.proofs.Conjunctions.{conj}
 use Rattle.terms.proofs.Decisions.{choice}
 use Rattle.terms.proofs.Implicants.{Free}
-use Rattle.terms.proofs.Terms.{IsTerm}
 
 -- f at the assignments with variable 0 as b
 abbrev half : (ℕ → Bool) → Bool → ℕ → Bool

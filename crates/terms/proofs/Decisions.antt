@@ -7,13 +7,13 @@ use lib.Dec.{T}
 use Rattle.masks.specs.Mask.{bit, put}
 use Rattle.masks.proofs.Masks.{put-same, put-lt}
 use Rattle.masks.proofs.Tests.{along, either}
-use Rattle.terms.specs.Term.{has, without, extend}
+use Rattle.terms.specs.Prime.{Implicant, Prime}
+use Rattle.terms.specs.Term.{has, without, extend, IsTerm}
 use Rattle.terms.specs.declared.Term.{Term}
 use Rattle.terms.proofs.Conjunctions.{conj, conj-l, conj-r, conj-i}
-use Rattle.terms.proofs.Implicants.{Implicant, Free, implicant-more, free-unmentioned, Prime}
-use Rattle.terms.proofs.Terms.{Unmentioned, without-here, without-there, extend-here, by-variable, without-inside}
-use Rattle.terms.proofs.Terms.{without-swap, agrees-inside, put-agrees, without-isTerm, extend-isTerm, without-extend}
-use Rattle.terms.proofs.Terms.{IsTerm}
+use Rattle.terms.proofs.Implicants.{Free, implicant-more, free-unmentioned}
+use Rattle.terms.proofs.Terms.{Unmentioned, without-here, without-there, extend-here, by-variable, without-inside, without-swap}
+use Rattle.terms.proofs.Terms.{agrees-inside, put-agrees, without-isTerm, extend-isTerm, without-extend}
 
 -- the side F false where x is no, the side F true where x is yes
 abbrev pub choice : (Bool → ℕ → Bool) → ℕ → ℕ → Bool

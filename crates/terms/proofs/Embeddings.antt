@@ -10,15 +10,15 @@ use native.Mathlib.Omega.{arith}
 use lib.Dec.{T}
 use lib.ListN.{length, length-append}
 use Rattle.masks.proofs.Tests.{along}
+use Rattle.terms.specs.Lists.{Rising}
 use Rattle.terms.specs.Order.{before}
-use Rattle.terms.specs.Prime.{implicant, primes}
+use Rattle.terms.specs.Prime.{implicant, primes, Prime}
 use Rattle.terms.specs.Term.{has, without, extend, join}
 use Rattle.terms.specs.declared.Term.{Term}
 use Rattle.terms.proofs.Conjunctions.{conj, inside-left, inside-right, apart-prime}
 use Rattle.terms.proofs.Decisions.{choice, side-unmentioned, both-sides, one-side}
-use Rattle.terms.proofs.Implicants.{Free, implicant-e, implicant-i, Prime}
+use Rattle.terms.proofs.Implicants.{Free, implicant-e, implicant-i}
 use Rattle.terms.proofs.Listed.{before-irrefl, primes-lists, primes-rising}
-use Rattle.terms.proofs.Sorted.{Rising}
 use Rattle.terms.proofs.Terms.{Inside, Unmentioned, extend-here, join-l, join-r, term-ext, without-extend}
 
 -- ---- a list without repetitions that goes one to one into another is no longer

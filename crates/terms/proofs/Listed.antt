@@ -3,23 +3,23 @@ use Prim.Native.Nat.{ℕ, _^_}
 use mathlib.Core.Path.{_≡_, refl, sym, ap, subst, _∙_}
 use mathlib.Core.Bool.{Bool, true, false, true≢false}
 use mathlib.Core.Logic.{⊎-elim}
-use mathlib.Core.List.{List, [], _∷_, map, List·Memᴰ, List·Memᴰ·not-nil, List·Memᴰ·cases-cons, Memᴰ·append-left}
-use mathlib.Core.List.{Memᴰ·append-right, Memᴰ·cast, head-eq-of-cons-eq, tail-eq-of-cons-eq}
+use mathlib.Core.List.{List, [], _∷_, map, List·Memᴰ, List·Memᴰ·not-nil, List·Memᴰ·cases-cons, Memᴰ·append-left, Memᴰ·append-right}
+use mathlib.Core.List.{Memᴰ·cast, head-eq-of-cons-eq, tail-eq-of-cons-eq}
 use lib.Dec.{T}
 use Rattle.masks.specs.Mask.{bit}
 use Rattle.masks.specs.Numbers.{below}
 use Rattle.masks.proofs.Numbers.{below-mem}
 use Rattle.masks.proofs.Operators.{bit-or}
 use Rattle.masks.proofs.Tests.{or-r, or-cases, along}
-use Rattle.terms.specs.Lists.{keep, sort}
+use Rattle.terms.specs.Lists.{keep, sort, Rising}
 use Rattle.terms.specs.Order.{key, before}
-use Rattle.terms.specs.Prime.{prime, pairs, candidates, primes}
-use Rattle.terms.specs.Term.{term, has, variables}
+use Rattle.terms.specs.Prime.{prime, pairs, candidates, primes, Prime}
+use Rattle.terms.specs.Term.{term, has, variables, IsTerm}
 use Rattle.terms.specs.declared.Term.{Term}
-use Rattle.terms.proofs.Implicants.{prime-e, prime-i, Prime}
-use Rattle.terms.proofs.Sorted.{less-irrefl, less-trans, less-total, Rising, rising-unique, sort-rising, sort-out, sort-in}
-use Rattle.terms.proofs.Sorted.{keep-out, keep-in, map-in}
-use Rattle.terms.proofs.Terms.{Inside, term-ext, IsTerm}
+use Rattle.terms.proofs.Implicants.{prime-e, prime-i}
+use Rattle.terms.proofs.Sorted.{less-irrefl, less-trans, less-total, rising-unique, sort-rising, sort-out, sort-in, keep-out}
+use Rattle.terms.proofs.Sorted.{keep-in, map-in}
+use Rattle.terms.proofs.Terms.{Inside, term-ext}
 
 pairs-mem : (t : Term) (ps ns : List ℕ) → List·Memᴰ (t .positive) ps → List·Memᴰ (t .negative) ns → List·Memᴰ t (pairs ps ns)
 pairs-mem t [] ns m n = absurd (List·Memᴰ·not-nil m)

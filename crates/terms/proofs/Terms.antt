@@ -12,14 +12,10 @@ use Rattle.masks.specs.Numbers.{implied, every}
 use Rattle.masks.proofs.Masks.{bit-ext, bit-below, bit-zero, put-same, put-other, put-lt, put-false-le}
 use Rattle.masks.proofs.Numbers.{every-e, every-i}
 use Rattle.masks.proofs.Operators.{bit-or, subset-e, subset-i, subset-mono}
-use Rattle.masks.proofs.Tests.{and-i, and-l, and-r, or-l, or-r, or-cases, implied-i, implied-e, is-true, is-false, along}
-use Rattle.masks.proofs.Tests.{same-test, same?}
-use Rattle.terms.specs.Term.{empty, mask, has, mentions, isTerm, agreesAt, agrees, without, extend, join, inside}
+use Rattle.masks.proofs.Tests.{and-i, and-l, and-r, or-l, or-r, or-cases, implied-i, implied-e, is-true, is-false, along, same-test}
+use Rattle.masks.proofs.Tests.{same?}
+use Rattle.terms.specs.Term.{IsTerm, Agrees, empty, mask, has, mentions, isTerm, agreesAt, agrees, without, extend, join, inside}
 use Rattle.terms.specs.declared.Term.{Term}
-
--- an assignment that has each literal's variable as its sign says
-abbrev pub Agrees : Term → ℕ → Type 0
-Agrees t s = (x : ℕ) (b : Bool) → T (has t b x) → bit s x ≡ b
 
 -- each literal of t is one of u
 abbrev pub Inside : Term → Term → Type 0
@@ -28,11 +24,6 @@ Inside t u = (x : ℕ) (b : Bool) → T (has t b x) → T (has u b x)
 -- no literal of x
 abbrev pub Unmentioned : Term → ℕ → Type 0
 Unmentioned t x = (b : Bool) → T (has t b x) → ⊥
-
--- a term over N variables
-pub record IsTerm (N : ℕ) (t : Term) : Type 0 where
-  pub fits : (b : Bool) → mask t b < 2 ^ N
-  pub once : (x : ℕ) (b c : Bool) → T (has t b x) → T (has t c x) → b ≡ c
 
 -- ---- literals taken away, added and joined, of either sign
 mask-without : (t : Term) (x : ℕ) (b : Bool) → mask (without t x) b ≡ put (mask t b) x false

@@ -2,3 +2,4 @@ pub mod Lists
 pub mod Term
 pub mod Order
 pub mod Prime
+pub mod Joins

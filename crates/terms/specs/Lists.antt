@@ -1,8 +1,8 @@
 -- Lists: tests of the elements, what a test keeps, and lists in order.
 use Prim.Native.Nat.{ℕ}
 use mathlib.Core.Bool.{Bool, true, false, _&&_, _||_, cond}
-use mathlib.Core.List.{List, [], _∷_}
-use lib.Dec.{eqb, ltb}
+use mathlib.Core.List.{List, [], _∷_, List·Memᴰ}
+use lib.Dec.{T, eqb, ltb}
 
 -- every element passes the test p
 abbrev pub all : {A : Type 0} → (A → Bool) → List A → Bool
@@ -36,3 +36,8 @@ module _ {A : Type 0} (before : A → A → Bool) where
   unfoldable pub sort : List A → List A
   sort [] = []
   sort (a ∷ l) = insert a (sort l)
+
+  -- each element comes before all later ones
+  abbrev pub Rising : List A → Type 0
+  Rising [] = Unit {0}
+  Rising (a ∷ l) = ((b : A) → List·Memᴰ b l → T (before a b)) × Rising l

@@ -1,11 +1,12 @@
 -- Implicants and prime implicants of a function of assignments. An assignment of N variables is a number below 2 ^ N.
-use Prim.Native.Nat.{ℕ, zero, suc, _^_}
+use Prim.Native.Nat.{ℕ, zero, suc, _^_, _<_}
 use mathlib.Core.Bool.{Bool, _&&_, not, cond}
 use mathlib.Core.List.{List, [], _∷_, _++_, map}
+use lib.Dec.{T}
 use Rattle.masks.specs.Numbers.{implied, every, below}
 use Rattle.terms.specs.Lists.{keep, sort}
 use Rattle.terms.specs.Order.{before}
-use Rattle.terms.specs.Term.{term, mentions, isTerm, agrees, without}
+use Rattle.terms.specs.Term.{term, has, mentions, isTerm, agrees, without, Agrees, IsTerm}
 use Rattle.terms.specs.declared.Term.{Term}
 
 -- every assignment that agrees with the term makes f true ("the row implies f")
@@ -33,3 +34,14 @@ primes N f = sort before (keep (prime N f) (candidates N))
 unfoldable pub reduce : ℕ → (ℕ → Bool) → Term → ℕ → Term
 reduce N f t zero = t
 reduce N f t (suc k) = let u : Term = reduce N f t k in cond (implicant N f (without u k)) (without u k) u
+
+-- ---- the same as statements
+-- every assignment of N variables that agrees with the term makes f true
+abbrev pub Implicant : ℕ → (ℕ → Bool) → Term → Type 0
+Implicant N f t = (s : ℕ) → s < 2 ^ N → Agrees t s → T (f s)
+
+-- a term over N variables that implies f, and stops doing so if any one literal is struck
+pub record Prime (N : ℕ) (f : ℕ → Bool) (t : Term) : Type 0 where
+  pub isTerm : IsTerm N t
+  pub holds : Implicant N f t
+  pub minimal : (x : ℕ) (b : Bool) → T (has t b x) → Implicant N f (without t x) → ⊥

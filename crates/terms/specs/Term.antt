@@ -1,6 +1,9 @@
 -- Terms ("rows"): a mask of the positive literals (facts marked yes) and one of the negative literals (facts marked no).
-use Prim.Native.Nat.{ℕ}
+use Prim.Native.Nat.{ℕ, _^_, _<_}
+use mathlib.Core.Path.{_≡_}
 use mathlib.Core.Bool.{Bool, true, false, _&&_, _||_, not}
+use mathlib.Core.List.{List, [], _∷_}
+use lib.Dec.{T}
 use lib.Bits.{bitOr}
 use Rattle.masks.specs.Mask.{bit, put, within, size, subset, disjoint}
 use Rattle.masks.specs.Numbers.{implied, every}
@@ -66,3 +69,20 @@ inside t u = subset (t .positive) (u .positive) && subset (t .negative) (u .nega
 -- some variable has different signs in t and u ("a clash")
 unfoldable pub conflict : Term → Term → Bool
 conflict t u = not (disjoint (t .positive) (u .negative) && disjoint (t .negative) (u .positive))
+
+-- ---- the same as statements
+-- an assignment that has each literal's variable as its sign says
+abbrev pub Agrees : Term → ℕ → Type 0
+Agrees t s = (x : ℕ) (b : Bool) → T (has t b x) → bit s x ≡ b
+
+-- a term over N variables
+pub record IsTerm (N : ℕ) (t : Term) : Type 0 where
+  pub fits : (b : Bool) → mask t b < 2 ^ N
+  pub once : (x : ℕ) (b c : Bool) → T (has t b x) → T (has t c x) → b ≡ c
+
+-- ---- lists of terms
+-- the terms with these positive masks and these negative masks
+abbrev pub termsOf : List ℕ → List ℕ → List Term
+termsOf [] ns = []
+termsOf (p ∷ ps) [] = []
+termsOf (p ∷ ps) (n ∷ ns) = term p n ∷ termsOf ps ns

@@ -1,14 +1,20 @@
 // Terms: conjunctions of literals, as two masks.
 ghost use mathlib.Core.Path.{_≡_};
 ghost use Prim.Native.Nat.{_<_};
-ghost use Rattle.terms.specs.Term.{isTerm, variables, literals, without, extend, join, inside, conflict};
 ghost use Rattle.terms.specs.Order.{before};
+ghost use Rattle.terms.specs.Term.{has, isTerm, variables, literals, without, extend, join, inside, conflict};
 
-// The papers' row: bit i of `positive` marks fact i yes, bit i of `negative` marks it no.
+// The scope's row: bit i of `positive` marks fact i yes, bit i of `negative` marks it no.
 pub struct Term {
     pub positive: u64,
     pub negative: u64,
 }
+
+// The term with no literal.
+pub const EMPTY: Term = Term {
+    positive: 0,
+    negative: 0,
+};
 
 // A term over n variables: no bit at n or above, none in both masks.
 pub fn is_term(t: Term, n: u32) -> bool
@@ -32,6 +38,18 @@ pub fn literals(t: Term) -> u32
     ensures { λ r. ⌜ r ≡ literals t ⌝ }
 {
     masks::count_bits(variables(t))
+}
+
+// The literal of x with the given sign is in the term.
+pub fn has_literal(t: Term, sign: bool, x: u32) -> bool
+    requires { ⌜ x < 64 ⌝ }
+    ensures { λ r. ⌜ r ≡ has t sign x ⌝ }
+{
+    if sign {
+        masks::has_bit(t.positive, x)
+    } else {
+        masks::has_bit(t.negative, x)
+    }
 }
 
 // The term with no literal of x.

@@ -10,7 +10,7 @@ use lib.Dec.{eqb, ltb, leb}
 use lib.ListN.{length, length-append, List·getD-eq-default}
 use borrow.Author.Tests.{eq-eqb, ne-eqb}
 use Rattle.masks.specs.Mask.{put}
-use Rattle.circuits.specs.Outcome.{Outcome, answered, refused}
+use Rattle.table.specs.Outcome.{Outcome, answered, refused}
 use Rattle.text.specs.Ascii.{ascii}
 use Rattle.text.specs.AssignmentLine.{variableOf, memberAt, closedAt, memberThen, membersAt, stowThen}
 use Rattle.text.specs.AssignmentSyntax.{printMembers, printAssignment, SmallNumbers, withAll, memberFaults}
@@ -23,10 +23,10 @@ use Rattle.text.specs.declared.head.Matched.{Matched}
 use Rattle.text.specs.declared.head.Matched.the-variants.{Past, Differs}
 use Rattle.text.specs.declared.number.Numeral.{Numeral}
 use Rattle.text.specs.declared.number.Numeral.the-variants.{Value, Missing}
-use Rattle.text.proofs.Locality.{SameTo, Local, ret, if, later, bind, at-byte, numeralAt, matchedAt, number-loc, match-loc}
-use Rattle.text.proofs.Locality.{LocalAnswer, same-place, refused-loc, accepted-loc, if-answer, later-answer, bind-answer}
-use Rattle.text.proofs.Locality.{byte-answer}
+use Rattle.text.proofs.Locality.{SameTo, Local, ret, if, later, bind, at-byte, numeralAt, number-loc, match-loc, LocalAnswer}
+use Rattle.text.proofs.Locality.{same-place, refused-loc, accepted-loc, if-answer, later-answer, bind-answer, byte-answer}
 use Rattle.text.proofs.Pieces.{Here, byte, ended, past, next, matched, number}
+use Rattle.text.proofs.Words.{matchedAt}
 
 -- what is read: the first of the faults, or else the good answer
 abbrev pub AnswerIs : List (ℕ × ℕ) → Outcome ℕ → Outcome ℕ → Type 0

@@ -1,8 +1,9 @@
--- Where a refusal of an assignment line stands, and what a line that is read says.
-use Prim.Native.Nat.{ℕ, zero, suc, _+_, _<_, _≤_}
+-- What is known of the reader of assignment lines (`Readers`): the bytes before a refusal are viable, and a printed line is read as its
+-- first fault.
+use Prim.Native.Nat.{ℕ, zero, suc, _+_, _<_}
 use mathlib.Core.Path.{_≡_, refl, sym, ap, subst, _∙_}
-use mathlib.Core.Bool.{Bool, true, false, _&&_, _||_, not, cond}
-use mathlib.Core.Logic.{_⊎_, inl, inr, ⊎-elim, _≢_}
+use mathlib.Core.Bool.{Bool, true, false, _&&_, _||_, cond}
+use mathlib.Core.Logic.{_⊎_, inl, inr, _≢_}
 use mathlib.Core.List.{List, [], _∷_, _++_, append-nil, append-assoc}
 use native.Mathlib.Omega.{arith}
 use lib.Dec.{T, eqb, ltb, leb, ltb→lt, lt→ltb, leb→le, le→leb}
@@ -10,13 +11,15 @@ use lib.ListN.{length, take}
 use lib.Seq.{take-all}
 use borrow.Author.Tests.{eq-eqb, ne-eqb}
 use Rattle.masks.specs.Mask.{put}
-use Rattle.masks.proofs.Tests.{and-i, and-l, and-r, decide, is-true, is-false, same?}
-use Rattle.circuits.specs.Outcome.{Outcome, answered, refused}
+use Rattle.masks.proofs.Tests.{and-i, and-l, and-r, same?}
+use Rattle.table.specs.Outcome.{Outcome, answered, refused}
 use Rattle.text.specs.Ascii.{ascii}
-use Rattle.text.specs.AssignmentLine.{variableOf, memberAt, closedAt, memberThen, membersAt, stowThen, readAssignment}
+use Rattle.text.specs.AssignmentLine.{variableOf, memberAt, closedAt, memberThen, membersAt, stowThen}
 use Rattle.text.specs.AssignmentSyntax.{printMembers, printAssignment, SmallNumbers, LineViable, RisingBelow, withAll}
 use Rattle.text.specs.AssignmentSyntax.{memberFaults}
 use Rattle.text.specs.Faults.{unless}
+use Rattle.text.specs.LineMeaning.{IsAssignment}
+use Rattle.text.specs.Meaning.{Bytes}
 use Rattle.text.specs.Read.{byteAt, numberAt, matchAt}
 use Rattle.text.specs.Syntax.{decimal}
 use Rattle.text.specs.declared.answer.Member.the-variants.{Next, Wrong, Unordered}
@@ -24,25 +27,18 @@ use Rattle.text.specs.declared.head.Matched.{Matched}
 use Rattle.text.specs.declared.head.Matched.the-variants.{Past, Differs}
 use Rattle.text.specs.declared.number.Numeral.{Numeral}
 use Rattle.text.specs.declared.number.Numeral.the-variants.{Value, Missing}
-use Rattle.text.proofs.AssignmentLines.{AnswerIs, closeText, members-flat, assignment-flat, readLine, line-read}
-use Rattle.text.proofs.AssignmentLines.{line-local}
-use Rattle.text.proofs.Clean.{append-none, none-append, unless-none, none-unless}
+use Rattle.text.proofs.AssignmentLines.{AnswerIs, closeText, members-flat, assignment-flat, readLine, line-read, line-local}
+use Rattle.text.proofs.Clean.{append-none, none-append, unless-none, none-unless, Numbered, numbered-append, numbered-unless}
+use Rattle.text.proofs.Clean.{numbered-first}
 use Rattle.text.proofs.Grammar.{IsNumber}
-use Rattle.text.proofs.Meaning.{value-not}
-use Rattle.text.proofs.Refusals.{bytes-append, worded, begins-same, marked, marked-same, printed-inside, same-number}
-use Rattle.text.proofs.Spans.{Bytes, Span, join, one-byte, MatchSaid, match-said, NumberSaid, number-said, past-end}
-
--- a line that prints to these bytes
-abbrev pub IsAssignment : List ℕ → Type 0
-IsAssignment x = (vs : List ℕ) × SmallNumbers vs × (printAssignment vs ≡ x)
-
--- the place up to which the bytes are viable: before 51, and past the byte of 52
-abbrev lineTo : ℕ → ℕ → ℕ
-lineTo k p = cond (eqb k 51) p (p + 1)
+use Rattle.text.proofs.Readers.{upTo, Reader}
+use Rattle.text.proofs.Refusals.{bytes-append, worded}
+use Rattle.text.proofs.Spans.{Span, join, one-byte, MatchSaid, match-said, NumberSaid, number-said, past-end}
 
 module _ (s : List ℕ) where
+  -- the bytes before a refusal begin a line, and a line that is read is one
   abbrev LineSaid : Outcome ℕ → Type 0
-  LineSaid (refused k p) = LineViable (take (lineTo k p) s)
+  LineSaid (refused k p) = LineViable (take (upTo 51 k p) s)
   LineSaid (answered m) = Bytes s → IsAssignment s
 
   -- whatever members follow the place, they complete a line
@@ -165,7 +161,7 @@ module _ (s : List ℕ) where
             viable p x (t ++ closeText) sp
             ([], tt, assignment-flat [] ∙ ap (λ (z : List ℕ). z ++ closeText) e ∙ append-assoc x t closeText)
 
--- ---- places
+-- ---- the bytes of a printed line are bytes
 members-bytes : (vs : List ℕ) → Bytes (printMembers vs)
 unfolding printMembers
 members-bytes [] = tt
@@ -178,7 +174,7 @@ print-bytes vs =
     (bytes-append (ascii "(stow") (printMembers vs) (omega arith) (members-bytes vs)) (omega arith)
 
 -- ---- the faults of a line
-members-clean : (N low at : ℕ) (vs : List ℕ) → memberFaults N low at vs ≡ [] → RisingBelow N low vs
+pub members-clean : (N low at : ℕ) (vs : List ℕ) → memberFaults N low at vs ≡ [] → RisingBelow N low vs
 unfolding memberFaults
 members-clean N low at [] e = tt
 members-clean N low at (v ∷ vs) e =
@@ -187,7 +183,7 @@ members-clean N low at (v ∷ vs) e =
     let b : T (leb low v && ltb v N) = unless-none (leb low v && ltb v N) 52 p e₁ in
     (leb→le low v (and-l (leb low v) (ltb v N) b), ltb→lt v N (and-r (leb low v) (ltb v N) b), members-clean N (v + 1) p vs e₂)
 
-clean-members : (N low at : ℕ) (vs : List ℕ) → RisingBelow N low vs → memberFaults N low at vs ≡ []
+pub clean-members : (N low at : ℕ) (vs : List ℕ) → RisingBelow N low vs → memberFaults N low at vs ≡ []
 unfolding memberFaults
 clean-members N low at [] r = refl
 clean-members N low at (v ∷ vs) (l, m, r) =
@@ -196,132 +192,35 @@ clean-members N low at (v ∷ vs) (l, m, r) =
     (none-unless (leb low v && ltb v N) 52 p (and-i (leb low v) (ltb v N) (le→leb low v l) (lt→ltb v N m)))
     (clean-members N (v + 1) p vs r)
 
--- no fault of a line is 51
-abbrev AllOrder : List (ℕ × ℕ) → Type 0
-AllOrder [] = Unit {0}
-AllOrder (e ∷ fs) = (e .0 ≡ 52) × AllOrder fs
+-- every fault of a line is 52
+abbrev OfLine : ℕ → Type 0
+OfLine k = k ≡ 52
 
-members-order : (N low at : ℕ) (vs : List ℕ) → AllOrder (memberFaults N low at vs)
+members-numbered : (N low at : ℕ) (vs : List ℕ) → Numbered OfLine (memberFaults N low at vs)
 unfolding memberFaults
-members-order N low at [] = tt
-members-order N low at (v ∷ vs) =
-    let p : ℕ = at + 1 + length (decimal v) in by (leb low v && ltb v N) (members-order N (v + 1) p vs)
-  where
-    by : (b : Bool) → AllOrder (memberFaults N (v + 1) (at + 1 + length (decimal v)) vs)
-        → AllOrder (unless b 52 (at + 1 + length (decimal v)) ++ memberFaults N (v + 1) (at + 1 + length (decimal v)) vs)
-    by true r = r
-    by false r = (refl, r)
+members-numbered N low at [] = tt
+members-numbered N low at (v ∷ vs) =
+    let p : ℕ = at + 1 + length (decimal v) in
+    numbered-append OfLine (unless (leb low v && ltb v N) 52 p) (memberFaults N (v + 1) p vs)
+    (numbered-unless OfLine (leb low v && ltb v N) 52 p refl) (members-numbered N (v + 1) p vs)
 
--- a printed line is refused by its first fault
-line-refused : (vs : List ℕ) (N k p : ℕ) → SmallNumbers vs → readLine (printAssignment vs) N ≡ refused k p
-    → (fs : List (ℕ × ℕ)) × (memberFaults N 0 5 vs ≡ (k, p) ∷ fs)
-line-refused vs N k p sm h = by (memberFaults N 0 5 vs) refl (line-read vs N sm)
-  where
-    by : (fs : List (ℕ × ℕ)) → memberFaults N 0 5 vs ≡ fs → AnswerIs fs (answered (withAll 0 vs)) (readLine (printAssignment vs) N)
-        → (fs : List (ℕ × ℕ)) × (memberFaults N 0 5 vs ≡ (k, p) ∷ fs)
-    by [] c r = absurd (value-not (withAll 0 vs) k p (sym r ∙ h))
-    by (e ∷ fs) c r =
-        let (i, j) = same-number (e .0) (e .1) k p (sym r ∙ h) in (fs, c ∙ ap (λ (z : ℕ × ℕ). z ∷ fs) (λ d. (i d, j d)))
+-- ---- the reader
+pub line-number : (N : ℕ) (vs : List ℕ) (k p : ℕ) (fs : List (ℕ × ℕ)) → memberFaults N 0 5 vs ≡ (k, p) ∷ fs → k ≡ 52
+line-number N vs k p fs c = numbered-first OfLine (memberFaults N 0 5 vs) fs k p (members-numbered N 0 5 vs) c
 
-line-shape : (vs : List ℕ) (N p : ℕ) → SmallNumbers vs → readLine (printAssignment vs) N ≡ refused 51 p → ⊥
-line-shape vs N p sm h =
-    let (fs, e) = line-refused vs N 51 p sm h in
-    let b : AllOrder ((51, p) ∷ fs) = subst AllOrder e (members-order N 0 5 vs) in
-    let z : _≡_ {A = ℕ} 51 52 = b .0 in
-    omega arith
-
-module _ (s : List ℕ) (N k p : ℕ) (h : readLine s N ≡ refused k p) where
-  said : LineViable (take (lineTo k p) s)
-  said = subst (LineSaid s) h (line-said s N)
-
-  place-inside : lineTo k p ≤ length s
-  place-inside =
-      let q : ℕ = lineTo k p in
-      let (vs, rest, sm, e) =
-      subst (LineSaid (marked s q)) (line-local s N k p h (marked s q) (marked-same s q p)) (line-said (marked s q) N) in
-      printed-inside s q q (printAssignment vs) rest (print-bytes vs) (omega arith) e
-
-  -- a line that goes on from the place is refused there too
-  goes-on : (vs rest : List ℕ) → p < length s → take (p + 1) s ++ rest ≡ printAssignment vs → readLine (printAssignment vs) N ≡ refused k p
-  goes-on vs rest l e = line-local s N k p h (printAssignment vs) (begins-same s (printAssignment vs) rest p l e)
-
--- ---- the theorems
--- N outside its range is 21 before anything else
-pub range-first : (s : List ℕ) (N : ℕ) → T (not (leb 1 N && leb N 40)) → readAssignment s N ≡ refused 21 0
-unfolding readAssignment
-range-first s N t = rw (is-false (leb 1 N && leb N 40) t)
-
-in-range : (s : List ℕ) (N : ℕ) → T (leb 1 N && leb N 40) → readAssignment s N ≡ readLine s N
-unfolding readAssignment
-in-range s N t = rw (is-true (leb 1 N && leb N 40) t)
-
--- a refusal other than 21 is of the line
-of-line : (s : List ℕ) (N k p : ℕ) → readAssignment s N ≡ refused k p → k ≢ 21 → readLine s N ≡ refused k p
-of-line s N k p h n =
-    ⊎-elim (λ (t : T (leb 1 N && leb N 40)). sym (in-range s N t) ∙ h)
-    (λ (t : T (not (leb 1 N && leb N 40))). absurd (n (sym (same-number 21 0 k p (sym (range-first s N t) ∙ h) .0))))
-    (decide (leb 1 N && leb N 40))
-
--- a line of rising variables below N is read as their mask
-pub assignment-complete : (vs : List ℕ) (N : ℕ) → T (leb 1 N && leb N 40) → SmallNumbers vs → RisingBelow N 0 vs
-    → readAssignment (printAssignment vs) N ≡ answered (withAll 0 vs)
-assignment-complete vs N t sm r =
-    in-range (printAssignment vs) N t
-    ∙ subst (λ (z : List (ℕ × ℕ)). AnswerIs z (answered (withAll 0 vs)) (readLine (printAssignment vs) N)) (clean-members N 0 5 vs r)
-    (line-read vs N sm)
-
--- and a line that is read is one
-pub assignment-sound : (s : List ℕ) (N mask : ℕ) → Bytes s → readAssignment s N ≡ answered mask
-    → (vs : List ℕ) × SmallNumbers vs × RisingBelow N 0 vs × (printAssignment vs ≡ s) × (withAll 0 vs ≡ mask)
-assignment-sound s N mask bytes h = from (subst (LineSaid s) line (line-said s N) bytes)
-  where
-    line : readLine s N ≡ answered mask
-    line =
-        ⊎-elim (λ (t : T (leb 1 N && leb N 40)). sym (in-range s N t) ∙ h)
-        (λ (t : T (not (leb 1 N && leb N 40))). absurd (value-not mask 21 0 (sym h ∙ range-first s N t)))
-        (decide (leb 1 N && leb N 40))
-
-    from : IsAssignment s → (vs : List ℕ) × SmallNumbers vs × RisingBelow N 0 vs × (printAssignment vs ≡ s) × (withAll 0 vs ≡ mask)
-    from (vs, sm, e) = by (memberFaults N 0 5 vs) refl (line-read vs N sm)
-      where
-        here : readLine (printAssignment vs) N ≡ answered mask
-        here = ap (λ (z : List ℕ). readLine z N) e ∙ line
-
-        by : (fs : List (ℕ × ℕ)) → memberFaults N 0 5 vs ≡ fs → AnswerIs fs (answered (withAll 0 vs)) (readLine (printAssignment vs) N)
-            → (vs : List ℕ) × SmallNumbers vs × RisingBelow N 0 vs × (printAssignment vs ≡ s) × (withAll 0 vs ≡ mask)
-        by [] c r = let m : answered (withAll 0 vs) ≡ answered mask = sym r ∙ here in (vs, sm, members-clean N 0 5 vs c, e, cc)
-        by (f ∷ fs) c r = absurd (value-not mask (f .0) (f .1) (sym here ∙ r))
-
--- 51 stands at the first byte with which no line goes on, or at the end of what is none
-pub record FirstWrongInLine (s : List ℕ) (p : ℕ) : Type 0 where
-  pub inside : p ≤ length s
-  pub before : LineViable (take p s)
-  pub here : p < length s → LineViable (take (p + 1) s) → ⊥
-  pub none : IsAssignment s → ⊥
-
-pub assignment-shape : (s : List ℕ) (N p : ℕ) → readAssignment s N ≡ refused 51 p → FirstWrongInLine s p
-assignment-shape s N p h =
-    let b : readLine s N ≡ refused 51 p = of-line s N 51 p h (omega arith) in
+pub line-reader : (N : ℕ) → Reader SmallNumbers printAssignment (memberFaults N 0 5) 51 (λ s. readLine s N)
+line-reader N =
     record {
-      inside = place-inside s N 51 p b;
-      before = said s N 51 p b;
-      here = λ l v. let (vs, rest, sm, e) = v in line-shape vs N p sm (goes-on s N 51 p b vs rest l e);
-      none = λ v. let (vs, sm, e) = v in line-shape vs N p sm (ap (λ (z : List ℕ). readLine z N) e ∙ b);
+      bytes = print-bytes;
+      other = λ vs k p fs c e. absurd (omega (arith, line-number N vs k p fs c));
+      clean = λ vs sm c. (withAll 0 vs, reads vs sm [] c);
+      faulty = λ vs k p fs sm c. reads vs sm ((k, p) ∷ fs) c;
+      local = λ s s′ k p h a. line-local s N k p h s′ a;
+      viable = λ s k p h. subst (LineSaid s) h (line-said s N);
+      whole = λ s mask b h. subst (LineSaid s) h (line-said s N) b;
     }
-
--- 52 stands at the first fault of every line that begins with the bytes up to there, and there is one
-pub record FirstFaultInLine (s : List ℕ) (N p : ℕ) : Type 0 where
-  pub inside : p < length s
-  pub viable : LineViable (take (p + 1) s)
-  pub first : (vs rest : List ℕ) → SmallNumbers vs → take (p + 1) s ++ rest ≡ printAssignment vs
-      → (fs : List (ℕ × ℕ)) × (memberFaults N 0 5 vs ≡ (52, p) ∷ fs)
-
-pub assignment-order : (s : List ℕ) (N p : ℕ) → readAssignment s N ≡ refused 52 p → FirstFaultInLine s N p
-assignment-order s N p h =
-    let b : readLine s N ≡ refused 52 p = of-line s N 52 p h (omega arith) in
-    let l : p < length s = omega (arith, place-inside s N 52 p b) in
-    record {
-      inside = l;
-      viable = said s N 52 p b;
-      first = λ vs rest sm e. line-refused vs N 52 p sm (goes-on s N 52 p b vs rest l e);
-    }
+  where
+    reads : (vs : List ℕ) → SmallNumbers vs → (fs : List (ℕ × ℕ)) → memberFaults N 0 5 vs ≡ fs
+        → AnswerIs fs (answered (withAll 0 vs)) (readLine (printAssignment vs) N)
+    reads vs sm fs c =
+        subst (λ (z : List (ℕ × ℕ)). AnswerIs z (answered (withAll 0 vs)) (readLine (printAssignment vs) N)) c (line-read vs N sm)

@@ -1,6 +1,6 @@
 -- A form or a tree has no fault exactly if it is within the limits.
 use Prim.Native.Nat.{ℕ, zero, suc, _+_, _*_, _<_, _≤_}
-use mathlib.Core.Path.{_≡_, refl, sym, ap₂}
+use mathlib.Core.Path.{_≡_, refl, sym, ap₂, subst}
 use mathlib.Core.Bool.{Bool, true, false, _&&_}
 use mathlib.Core.List.{List, [], _∷_, _++_, cons≢nil}
 use native.Mathlib.Nat.{add-zero}
@@ -9,9 +9,8 @@ use lib.Dec.{T, ltb, leb, ltb→lt, lt→ltb, leb→le, le→leb}
 use lib.ListN.{length, length-append}
 use Rattle.masks.proofs.Tests.{and-i, and-l, and-r}
 use Rattle.text.specs.Faults.{unless, nodesIn, closing, formFaults, linesFaults, treeFaults}
-use Rattle.text.specs.Syntax.{decimal, printForm, print, Below, compileForm, compileLines, compile, depth, LinesWithin}
-use Rattle.text.specs.Syntax.{Tree, Compiled, Within, Form, constantForm, literalForm, decisionForm, conjunctionForm}
-use Rattle.text.specs.Syntax.{lineForm}
+use Rattle.text.specs.Syntax.{decimal, printForm, print, Below, compileForm, compileLines, compile, depth, LinesWithin, Tree}
+use Rattle.text.specs.Syntax.{Compiled, Within, Form, constantForm, literalForm, decisionForm, conjunctionForm, lineForm}
 use Rattle.text.proofs.NodeWords.{compile-nodes, compile-length}
 
 pub append-none : {A : Type 0} (xs ys : List A) → xs ++ ys ≡ [] → (xs ≡ []) × (ys ≡ [])
@@ -165,7 +164,7 @@ tree-clean room t l e =
       low = leb→le 1 N (and-l (leb 1 N) (leb N 40) b);
       high = leb→le N 40 (and-r (leb 1 N) (leb N 40) b);
       each = ws;
-      capacity = omega arith;
+      nodes = omega arith;
     }
 
 pub clean-tree : (room : ℕ) (t : Tree) → Within room t → treeFaults room t ≡ []
@@ -174,65 +173,73 @@ clean-tree room t w =
     let N : ℕ = t .variables in
     let p : ℕ = 9 + length (decimal N) in
     let (i, j) = lines-compiled [] 0 (t .lines) in
-    let m : compileLines [] 0 (t .lines) .nodes ≤ room = w .capacity in
+    let m : compileLines [] 0 (t .lines) .nodes ≤ room = w .nodes in
     none-append (unless (leb 1 N && leb N 40) 12 p) (linesFaults N room 0 (p + 2) 0 (t .lines))
     (none-unless (leb 1 N && leb N 40) 12 p (and-i (leb 1 N) (leb N 40) (le→leb 1 N (w .low)) (le→leb N 40 (w .high))))
     (clean-lines N room (t .lines) 0 (p + 2) 0 (w .each) (omega arith))
 
--- ---- no fault of a tree is 11
-abbrev pub Big : List (ℕ × ℕ) → Type 0
-Big [] = Unit {0}
-Big (e ∷ fs) = (11 < e .0) × Big fs
+-- ---- the numbers of faults
+abbrev pub Numbered : (ℕ → Type 0) → List (ℕ × ℕ) → Type 0
+Numbered P [] = Unit {0}
+Numbered P (e ∷ fs) = P (e .0) × Numbered P fs
 
-big-append : (fs gs : List (ℕ × ℕ)) → Big fs → Big gs → Big (fs ++ gs)
-big-append [] gs b c = c
-big-append (e ∷ fs) gs b c = (b .0, big-append fs gs (b .1) c)
+module _ (P : ℕ → Type 0) where
+  pub numbered-append : (fs gs : List (ℕ × ℕ)) → Numbered P fs → Numbered P gs → Numbered P (fs ++ gs)
+  numbered-append [] gs b c = c
+  numbered-append (e ∷ fs) gs b c = (b .0, numbered-append fs gs (b .1) c)
 
-big-unless : (b : Bool) (k p : ℕ) → 11 < k → Big (unless b k p)
-big-unless true k p l = tt
-big-unless false k p l = (l, tt)
+  pub numbered-unless : (b : Bool) (k p : ℕ) → P k → Numbered P (unless b k p)
+  numbered-unless true k p h = tt
+  numbered-unless false k p h = (h, tt)
 
-form-big : (N k room d at n : ℕ) (f : Form) → Big (formFaults N k room d at n f)
+  pub numbered-first : (fs gs : List (ℕ × ℕ)) (k p : ℕ) → Numbered P fs → fs ≡ (k, p) ∷ gs → P k
+  numbered-first fs gs k p h e = let b : Numbered P ((k, p) ∷ gs) = subst (Numbered P) e h in b .0
+
+-- every fault of a tree is one of 12 to 15
+abbrev pub OfTree : ℕ → Type 0
+OfTree k = (12 ≤ k) × (k ≤ 15)
+
+form-numbered : (N k room d at n : ℕ) (f : Form) → Numbered OfTree (formFaults N k room d at n f)
 unfolding formFaults
-form-big N k room zero at n f = (omega arith, tt)
-form-big N k room (suc d) at n (constantForm v) = big-unless (ltb n room) 15 (closing at (constantForm v)) (omega arith)
-form-big N k room (suc d) at n (literalForm v x) =
+form-numbered N k room zero at n f = (omega arith, tt)
+form-numbered N k room (suc d) at n (constantForm v) = numbered-unless OfTree (ltb n room) 15 (closing at (constantForm v)) (omega arith)
+form-numbered N k room (suc d) at n (literalForm v x) =
     let p : ℕ = closing at (literalForm v x) in
-    big-append (unless (ltb x N) 12 p) (unless (ltb n room) 15 p) (big-unless (ltb x N) 12 p (omega arith))
-    (big-unless (ltb n room) 15 p (omega arith))
-form-big N k room (suc d) at n (decisionForm x f g) =
+    numbered-append OfTree (unless (ltb x N) 12 p) (unless (ltb n room) 15 p) (numbered-unless OfTree (ltb x N) 12 p (omega arith))
+    (numbered-unless OfTree (ltb n room) 15 p (omega arith))
+form-numbered N k room (suc d) at n (decisionForm x f g) =
     let p : ℕ = at + 6 + length (decimal x) in
     let q : ℕ = p + 1 + length (printForm f) in
     let c : ℕ = closing at (decisionForm x f g) in
     let fs : List (ℕ × ℕ) = formFaults N k room d (p + 1) n f in
     let gs : List (ℕ × ℕ) = formFaults N k room d (q + 1) (n + nodesIn f) g in
     let own : List (ℕ × ℕ) = unless (ltb (n + nodesIn f + nodesIn g) room) 15 c in
-    big-append (unless (ltb x N) 12 p) ((fs ++ gs) ++ own) (big-unless (ltb x N) 12 p (omega arith))
-    (big-append (fs ++ gs) own
-    (big-append fs gs (form-big N k room d (p + 1) n f) (form-big N k room d (q + 1) (n + nodesIn f) g))
-    (big-unless (ltb (n + nodesIn f + nodesIn g) room) 15 c (omega arith)))
-form-big N k room (suc d) at n (conjunctionForm f g) =
+    numbered-append OfTree (unless (ltb x N) 12 p) ((fs ++ gs) ++ own) (numbered-unless OfTree (ltb x N) 12 p (omega arith))
+    (numbered-append OfTree (fs ++ gs) own
+    (numbered-append OfTree fs gs (form-numbered N k room d (p + 1) n f) (form-numbered N k room d (q + 1) (n + nodesIn f) g))
+    (numbered-unless OfTree (ltb (n + nodesIn f + nodesIn g) room) 15 c (omega arith)))
+form-numbered N k room (suc d) at n (conjunctionForm f g) =
     let q : ℕ = at + 5 + 1 + length (printForm f) in
     let c : ℕ = closing at (conjunctionForm f g) in
     let fs : List (ℕ × ℕ) = formFaults N k room d (at + 5 + 1) n f in
     let gs : List (ℕ × ℕ) = formFaults N k room d (q + 1) (n + nodesIn f) g in
     let own : List (ℕ × ℕ) = unless (ltb (n + nodesIn f + nodesIn g) room) 15 c in
-    big-append (fs ++ gs) own
-    (big-append fs gs (form-big N k room d (at + 5 + 1) n f) (form-big N k room d (q + 1) (n + nodesIn f) g))
-    (big-unless (ltb (n + nodesIn f + nodesIn g) room) 15 c (omega arith))
-form-big N k room (suc d) at n (lineForm j) = big-unless (ltb j k) 13 (closing at (lineForm j)) (omega arith)
+    numbered-append OfTree (fs ++ gs) own
+    (numbered-append OfTree fs gs (form-numbered N k room d (at + 5 + 1) n f) (form-numbered N k room d (q + 1) (n + nodesIn f) g))
+    (numbered-unless OfTree (ltb (n + nodesIn f + nodesIn g) room) 15 c (omega arith))
+form-numbered N k room (suc d) at n (lineForm j) = numbered-unless OfTree (ltb j k) 13 (closing at (lineForm j)) (omega arith)
 
-lines-big : (N room : ℕ) (fs : List Form) (k at n : ℕ) → Big (linesFaults N room k at n fs)
+lines-numbered : (N room : ℕ) (fs : List Form) (k at n : ℕ) → Numbered OfTree (linesFaults N room k at n fs)
 unfolding linesFaults
-lines-big N room [] k at n = tt
-lines-big N room (f ∷ fs) k at n =
-    big-append (formFaults N k room 16 at n f) (linesFaults N room (suc k) (at + length (printForm f) + 1) (n + nodesIn f) fs)
-    (form-big N k room 16 at n f) (lines-big N room fs (suc k) (at + length (printForm f) + 1) (n + nodesIn f))
+lines-numbered N room [] k at n = tt
+lines-numbered N room (f ∷ fs) k at n =
+    numbered-append OfTree (formFaults N k room 16 at n f) (linesFaults N room (suc k) (at + length (printForm f) + 1) (n + nodesIn f) fs)
+    (form-numbered N k room 16 at n f) (lines-numbered N room fs (suc k) (at + length (printForm f) + 1) (n + nodesIn f))
 
-pub tree-big : (room : ℕ) (t : Tree) → Big (treeFaults room t)
+pub tree-numbered : (room : ℕ) (t : Tree) → Numbered OfTree (treeFaults room t)
 unfolding treeFaults
-tree-big room t =
+tree-numbered room t =
     let N : ℕ = t .variables in
     let p : ℕ = 9 + length (decimal N) in
-    big-append (unless (leb 1 N && leb N 40) 12 p) (linesFaults N room 0 (p + 2) 0 (t .lines))
-    (big-unless (leb 1 N && leb N 40) 12 p (omega arith)) (lines-big N room (t .lines) 0 (p + 2) 0)
+    numbered-append OfTree (unless (leb 1 N && leb N 40) 12 p) (linesFaults N room 0 (p + 2) 0 (t .lines))
+    (numbered-unless OfTree (leb 1 N && leb N 40) 12 p (omega arith)) (lines-numbered N room (t .lines) 0 (p + 2) 0)

@@ -1,30 +1,32 @@
 -- Bytes that are a number, a form, lines or a text of the grammar: some tree prints to them.
-use Prim.Native.Nat.{ℕ, _+_, _*_, _/_, _%_, _<_, _≤_}
+use Prim.Native.Nat.{ℕ, _+_, _*_, _/_, _%_, _<_}
 use mathlib.Core.Path.{_≡_, refl, sym, ap, ap₂, _∙_}
-use mathlib.Core.Bool.{Bool, true, false, cond}
+use mathlib.Core.Bool.{Bool, cond}
 use mathlib.Core.Logic.{_≢_}
 use mathlib.Core.List.{List, [], _∷_, _++_, cons≢nil, append-nil, append-assoc}
 use native.Mathlib.Omega.{arith}
 use Rattle.text.specs.Ascii.{ascii}
-use Rattle.text.specs.Read.{ownKinds, allKinds, wordOf}
-use Rattle.text.specs.Syntax.{decimal, printForm, printLines, print, Below, Own, GrammaticalLines, Tree, Grammatical, Form}
-use Rattle.text.specs.Syntax.{constantForm, literalForm, decisionForm, conjunctionForm, lineForm}
+use Rattle.text.specs.Meaning.{IsText}
+use Rattle.text.specs.Syntax.{decimal, printForm, printLines, Below, GrammaticalLines, Tree, Form, constantForm, literalForm}
+use Rattle.text.specs.Syntax.{decisionForm, conjunctionForm, lineForm}
+use Rattle.text.specs.Words.{spelling}
+use Rattle.text.specs.declared.head.Role.{Role}
+use Rattle.text.specs.declared.head.Role.the-variants.{OwnForm, Argument}
+use Rattle.text.specs.declared.head.Word.the-variants.{Yes, No, Pick, Both, Line}
 use Rattle.text.proofs.Pieces.{decimal-1, decimal-2, decimal-3, decimal-4}
-use Rattle.text.proofs.Spelling.{literal-flat, line-flat, decision-flat, conjunction-flat, kindNumber}
+use Rattle.text.proofs.Spelling.{literal-flat, line-flat, decision-flat, conjunction-flat, Stands, own-stands}
 use Rattle.text.proofs.Texts.{header-flat}
+use Rattle.text.proofs.Words.{LineMay}
 
 abbrev pub IsNumber : List ℕ → Type 0
 IsNumber x = (v : ℕ) × (v < 10000) × (decimal v ≡ x)
 
--- a form whose kind is below `kinds`
-abbrev pub IsForm : ℕ → List ℕ → Type 0
-IsForm kinds x = (f : Form) × Below 10000 10000 f × (kindNumber f < kinds) × (printForm f ≡ x)
+-- a form that may stand in a role
+abbrev pub IsForm : Role → List ℕ → Type 0
+IsForm role x = (f : Form) × Below 10000 10000 f × Stands role f × (printForm f ≡ x)
 
 abbrev pub IsLines : List ℕ → Type 0
 IsLines x = (fs : List Form) × (fs ≢ []) × GrammaticalLines fs × (printLines fs ≡ x)
-
-abbrev pub IsText : List ℕ → Type 0
-IsText x = (t : Tree) × Grammatical t × (print t ≡ x)
 
 -- ---- numbers by their digits
 pub one-digit : (a : ℕ) → a < 10 → IsNumber ((48 + a) ∷ [])
@@ -56,73 +58,64 @@ four-digits a b c d z la lb lc ld =
     (v, omega arith, decimal-4 v (omega arith) ∙ λ i. (48 + e i) ∷ (48 + f i) ∷ (48 + g i) ∷ (48 + h i) ∷ [])
 
 -- ---- forms
-module _ (kinds : ℕ) (six : 6 ≤ kinds) where
-  pub constant-form : (v : Bool) → IsForm kinds (printForm (constantForm v))
-  constant-form true = (constantForm true, tt, omega arith, refl)
-  constant-form false = (constantForm false, tt, omega arith, refl)
+module _ (role : Role) where
+  pub constant-form : (v : Bool) → IsForm role (printForm (constantForm v))
+  constant-form v = (constantForm v, tt, own-stands role (constantForm v) tt, refl)
 
-  pub literal-form : (v : Bool) (x : List ℕ) → IsNumber x
-      → IsForm kinds (40 ∷ cond v 121 110 ∷ (wordOf (cond v 2 3) ++ (x ++ (41 ∷ []))))
+  pub literal-form : (v : Bool) (x : List ℕ) → IsNumber x → IsForm role (40 ∷ (spelling (cond v Yes No) ++ (x ++ (41 ∷ []))))
   literal-form v x (n, l, e) = (
     literalForm v n,
     l,
-    kind v,
+    own-stands role (literalForm v n) tt,
     sym (append-nil (printForm (literalForm v n))) ∙ literal-flat v n []
-        ∙ ap (λ (z : List ℕ). 40 ∷ cond v 121 110 ∷ (wordOf (cond v 2 3) ++ (z ++ (41 ∷ [])))) e,
+        ∙ ap (λ (z : List ℕ). 40 ∷ (spelling (cond v Yes No) ++ (z ++ (41 ∷ [])))) e,
   )
-    where
-      kind : (v : Bool) → cond v 2 3 < kinds
-      kind true = omega arith
-      kind false = omega arith
 
   -- a decision, after its word: a number and two forms
-  pub decision-form : (x y z : List ℕ) → IsNumber x → IsForm allKinds y → IsForm allKinds z
-      → IsForm kinds (40 ∷ 112 ∷ (wordOf 4 ++ (x ++ (32 ∷ (y ++ (32 ∷ (z ++ (41 ∷ []))))))))
+  pub decision-form : (x y z : List ℕ) → IsNumber x → IsForm Argument y → IsForm Argument z
+      → IsForm role (40 ∷ (spelling Pick ++ (x ++ (32 ∷ (y ++ (32 ∷ (z ++ (41 ∷ []))))))))
   decision-form x y z (n, l, e) (f, bf, kf, pf) (g, bg, kg, pg) = (
     decisionForm n f g,
     (l, bf, bg),
-    omega arith,
+    own-stands role (decisionForm n f g) tt,
     sym (append-nil (printForm (decisionForm n f g))) ∙ decision-flat n f g []
-        ∙ λ i. 40 ∷ 112 ∷ (wordOf 4 ++ (e i ++ (32 ∷ (pf i ++ (32 ∷ (pg i ++ (41 ∷ []))))))),
+        ∙ λ i. 40 ∷ (spelling Pick ++ (e i ++ (32 ∷ (pf i ++ (32 ∷ (pg i ++ (41 ∷ []))))))),
   )
 
-  pub conjunction-form : (y z : List ℕ) → IsForm allKinds y → IsForm allKinds z
-      → IsForm kinds (40 ∷ 98 ∷ (wordOf 5 ++ (32 ∷ (y ++ (32 ∷ (z ++ (41 ∷ [])))))))
+  pub conjunction-form : (y z : List ℕ) → IsForm Argument y → IsForm Argument z
+      → IsForm role (40 ∷ (spelling Both ++ (32 ∷ (y ++ (32 ∷ (z ++ (41 ∷ [])))))))
   conjunction-form y z (f, bf, kf, pf) (g, bg, kg, pg) = (
     conjunctionForm f g,
     (bf, bg),
-    omega arith,
+    own-stands role (conjunctionForm f g) tt,
     sym (append-nil (printForm (conjunctionForm f g))) ∙ conjunction-flat f g []
-        ∙ λ i. 40 ∷ 98 ∷ (wordOf 5 ++ (32 ∷ (pf i ++ (32 ∷ (pg i ++ (41 ∷ [])))))),
+        ∙ λ i. 40 ∷ (spelling Both ++ (32 ∷ (pf i ++ (32 ∷ (pg i ++ (41 ∷ [])))))),
   )
 
-pub line-form : (kinds : ℕ) (x : List ℕ) → 6 < kinds → IsNumber x → IsForm kinds (40 ∷ 108 ∷ (wordOf 6 ++ (x ++ (41 ∷ []))))
-line-form kinds x l (n, m, e) = (
+pub line-form : (role : Role) (x : List ℕ) → LineMay role → IsNumber x → IsForm role (40 ∷ (spelling Line ++ (x ++ (41 ∷ []))))
+line-form role x l (n, m, e) = (
   lineForm n,
   m,
-  l,
-  sym (append-nil (printForm (lineForm n))) ∙ line-flat n [] ∙ ap (λ (z : List ℕ). 40 ∷ 108 ∷ (wordOf 6 ++ (z ++ (41 ∷ [])))) e,
+  stands role l,
+  sym (append-nil (printForm (lineForm n))) ∙ line-flat n [] ∙ ap (λ (z : List ℕ). 40 ∷ (spelling Line ++ (z ++ (41 ∷ [])))) e,
 )
+  where
+    stands : (role : Role) → LineMay role → Stands role (lineForm n)
+    stands OwnForm l = l
+    stands Argument l = tt
 
 -- ---- lines and texts
-kind-own : (f : Form) → kindNumber f < ownKinds → Own f
-kind-own (constantForm v) l = tt
-kind-own (literalForm v x) l = tt
-kind-own (decisionForm x f g) l = tt
-kind-own (conjunctionForm f g) l = tt
-kind-own (lineForm j) l = absurd (omega arith)
-
-pub last-line : (x : List ℕ) → IsForm ownKinds x → IsLines (x ++ (10 ∷ []))
+pub last-line : (x : List ℕ) → IsForm OwnForm x → IsLines (x ++ (10 ∷ []))
 unfolding printLines
 last-line x (f, b, k, p) =
-    (f ∷ [], cons≢nil, (kind-own f k, b, tt), append-nil (printForm f ++ (10 ∷ [])) ∙ ap (λ (z : List ℕ). z ++ (10 ∷ [])) p)
+    (f ∷ [], cons≢nil, (k, b, tt), append-nil (printForm f ++ (10 ∷ [])) ∙ ap (λ (z : List ℕ). z ++ (10 ∷ [])) p)
 
-pub next-line : (x y : List ℕ) → IsForm ownKinds x → IsLines y → IsLines (x ++ (10 ∷ y))
+pub next-line : (x y : List ℕ) → IsForm OwnForm x → IsLines y → IsLines (x ++ (10 ∷ y))
 unfolding printLines
 next-line x y (f, b, k, p) (fs, n, g, q) = (
   f ∷ fs,
   cons≢nil,
-  (kind-own f k, b, g),
+  (k, b, g),
   append-assoc (printForm f) (10 ∷ []) (printLines fs) ∙ ap₂ (λ (u v : List ℕ). u ++ (10 ∷ v)) p q,
 )
 

@@ -1,4 +1,5 @@
 pub mod Laws
+pub mod Words
 pub mod Pieces
 pub mod Spelling
 pub mod NodeWords
@@ -15,9 +16,13 @@ pub mod ViableHeads
 pub mod ViableForms
 pub mod NodeCount
 pub mod Viability
+pub mod Readers
 pub mod Meaning
 pub mod Refusals
+pub mod Determined
+pub mod WrittenLines
 pub mod RoundTrip
 pub mod Ordered
 pub mod AssignmentLines
 pub mod AssignmentMeaning
+pub mod LineDetermined

@@ -6,15 +6,17 @@ use mathlib.Core.List.{List, [], _∷_}
 use native.Mathlib.Omega.{arith}
 use lib.Dec.{eqb, ltb, leb}
 use lib.ListN.{getD, set, replicate}
-use Rattle.circuits.specs.Outcome.{Outcome, answered, refused}
+use Rattle.table.specs.Outcome.{Outcome, answered, refused}
 use Rattle.text.specs.Answers.{faultNumber}
 use Rattle.text.specs.Ascii.{ascii}
-use Rattle.text.specs.Read.{byteAt, digitAt, digitsAt, numberAt, matchAt, rangedOf, rangedAt, kindOf, ownKinds, allKinds}
-use Rattle.text.specs.Read.{wordOf, leafOf, innerOf, lineOf, tailAt, wordThen, headAt, store, closeAt, lastOf, secondOf}
-use Rattle.text.specs.Read.{argsWith, setting, closedOf, openedOf, formAt, answers, lineEnd, maxLines, linesAt, headerThen}
-use Rattle.text.specs.Read.{headerOf, headerAt, roomOf, settled, bodyOf, Stepped, Paired, ReadOut}
+use Rattle.text.specs.Limits.{maxLines}
+use Rattle.text.specs.Read.{byteAt, digitAt, digitsAt, numberAt, matchAt, rangedOf, rangedAt, leafOf, innerOf, lineOf, tailAt}
+use Rattle.text.specs.Read.{wordThen, headAt, store, closeAt, lastOf, secondOf, argsWith, setting, closedOf, openedOf, formAt}
+use Rattle.text.specs.Read.{answers, lineEnd, linesAt, headerThen, headerOf, headerAt, roomOf, settled, bodyOf, Stepped, Paired}
+use Rattle.text.specs.Read.{ReadOut, wordAt}
+use Rattle.text.specs.Words.{spelling, wordsFor}
 use Rattle.text.specs.declared.answer.Fault.{Fault}
-use Rattle.text.specs.declared.answer.Fault.the-variants.{Shape, Range, Reference, Depth, Capacity}
+use Rattle.text.specs.declared.answer.Fault.the-variants.{Shape, Range, Reference, Depth, Nodes}
 use Rattle.text.specs.declared.answer.Pair.{Pair}
 use Rattle.text.specs.declared.answer.Pair.the-variants.{Halt, Two}
 use Rattle.text.specs.declared.answer.Step.{Step}
@@ -26,9 +28,16 @@ use Rattle.text.specs.declared.head.Matched.{Matched}
 use Rattle.text.specs.declared.head.Matched.the-variants.{Past, Differs}
 use Rattle.text.specs.declared.head.Opening.{Opening}
 use Rattle.text.specs.declared.head.Opening.the-variants.{Broken, Leaf, Inner, Line}
+use Rattle.text.specs.declared.head.Role.{Role}
+use Rattle.text.specs.declared.head.Role.the-variants.{OwnForm, Argument}
+use Rattle.text.specs.declared.head.Spelled.{Spelled}
+use Rattle.text.specs.declared.head.Spelled.the-variants.{Is, None}
+use Rattle.text.specs.declared.head.Word.{Word}
+use Rattle.text.specs.declared.head.Word.the-variants.{False, True, Yes, No, Pick, Both, Line as LineWord}
 use Rattle.text.specs.declared.number.Numeral.{Numeral}
 use Rattle.text.specs.declared.number.Numeral.the-variants.{Value, Missing}
 use Rattle.text.proofs.Texts.{readBody}
+use Rattle.text.proofs.Words.{first, apart, spelledOf, letterThen, spelledAt, matchedAt, by-letter}
 
 -- s′ has the bytes of s up to place p
 abbrev pub SameTo : List ℕ → List ℕ → ℕ → Type 0
@@ -49,6 +58,12 @@ module _ {R : Type 0} (reach : R → ℕ) (s : List ℕ) where
   pub later : (X : List ℕ → R) (at to : ℕ) → at ≤ to → Local reach s X to → Local reach s X at
   later X at to l x = (omega (arith, x .0), x .1)
 
+  -- a reading that gives the same everywhere
+  pub same-loc : (X Y : List ℕ → R) (at : ℕ) → ((z : List ℕ) → X z ≡ Y z) → Local reach s Y at → Local reach s X at
+  same-loc X Y at e y =
+      let r : reach (X s) ≡ reach (Y s) = ap reach (e s) in
+      (omega (arith, y .0), λ s′ a. e s′ ∙ y .1 s′ (λ i l. a i (omega arith)) ∙ sym (e s))
+
   pub bind : {Q : Type 0} (of : Q → ℕ) (X : List ℕ → Q) (K : List ℕ → Q → R) (at : ℕ) → Local of s X at
       → ((q : Q) → Local reach s (λ z. K z q) (of q)) → Local reach s (λ z. K z (X z)) at
   bind of X K at x k =
@@ -63,10 +78,6 @@ module _ {R : Type 0} (reach : R → ℕ) (s : List ℕ) where
 abbrev pub numeralAt : ℕ → Numeral → ℕ
 numeralAt at (Value v p) = p
 numeralAt at Missing = at
-
-abbrev pub matchedAt : Matched → ℕ
-matchedAt (Past p) = p
-matchedAt (Differs p) = p
 
 abbrev rangeAt : InRange → ℕ
 rangeAt (Inside v p) = p
@@ -162,59 +173,60 @@ module _ (s : List ℕ) where
   line-by (Inside v p) = ret openingAt s (Line v p) p (omega arith)
   line-by (Unfit f p) = ret openingAt s (Broken f p) p (omega arith)
 
-  tail-loc : (at kind : ℕ) (g : Limits) → Local openingAt s (λ z. tailAt z at kind g) at
+  -- a number at a place, and what is made of it
+  number-then : (K : InRange → Opening) (at high next : ℕ) (why : Fault)
+      → ((x : InRange) → Local openingAt s (λ z. K x) (rangeAt x)) → Local openingAt s (λ z. K (rangedAt z at 0 high next why)) at
+  number-then K at high next why k =
+      bind openingAt s rangeAt (λ z. rangedAt z at 0 high next why) (λ z x. K x) at (ranged-loc at 0 high next why) k
+
+  tail-loc : (at : ℕ) (w : Word) (g : Limits) → Local openingAt s (λ z. tailAt z at w g) at
   unfolding tailAt
-  tail-loc at kind g =
-      let N : ℕ = g .variables in
-      let leaf : List ℕ → Opening = (λ z. leafOf kind (rangedAt z at 0 N 41 Range)) in
-      let inner : List ℕ → Opening = (λ z. innerOf kind (rangedAt z at 0 N 32 Range)) in
-      let line : List ℕ → Opening = (λ z. lineOf (rangedAt z at 0 (g .earlier) 41 Reference)) in
-      let l₁ = bind openingAt s rangeAt (λ z. rangedAt z at 0 N 41 Range) (λ z x. leafOf kind x) at (ranged-loc at 0 N 41 Range)
-      (leaf-by kind) in
-      let l₂ = bind openingAt s rangeAt (λ z. rangedAt z at 0 N 32 Range) (λ z x. innerOf kind x) at (ranged-loc at 0 N 32 Range)
-      (inner-by kind) in
-      let l₃ =
-      bind openingAt s rangeAt (λ z. rangedAt z at 0 (g .earlier) 41 Reference) (λ z x. lineOf x) at
-      (ranged-loc at 0 (g .earlier) 41 Reference) line-by in
-      if openingAt s (ltb kind 2) (λ z. Leaf kind 0 at)
-      (λ z. cond (ltb kind 4) (leaf z) (cond (eqb kind 4) (inner z) (cond (eqb kind 5) (Inner kind 0 at) (line z)))) at
-      (ret openingAt s (Leaf kind 0 at) at (omega arith))
-      (if openingAt s (ltb kind 4) leaf (λ z. cond (eqb kind 4) (inner z) (cond (eqb kind 5) (Inner kind 0 at) (line z))) at l₁
-      (if openingAt s (eqb kind 4) inner (λ z. cond (eqb kind 5) (Inner kind 0 at) (line z)) at l₂
-      (if openingAt s (eqb kind 5) (λ z. Inner kind 0 at) line at (ret openingAt s (Inner kind 0 at) at (omega arith)) l₃)))
+  tail-loc at False g = ret openingAt s (Leaf 0 0 at) at (omega arith)
+  tail-loc at True g = ret openingAt s (Leaf 1 0 at) at (omega arith)
+  tail-loc at Yes g = number-then (leafOf 2) at (g .variables) 41 Range (leaf-by 2)
+  tail-loc at No g = number-then (leafOf 3) at (g .variables) 41 Range (leaf-by 3)
+  tail-loc at Pick g = number-then (innerOf 4) at (g .variables) 32 Range (inner-by 4)
+  tail-loc at Both g = ret openingAt s (Inner 5 0 at) at (omega arith)
+  tail-loc at LineWord g = number-then lineOf at (g .earlier) 41 Reference line-by
 
-  word-by : (kind : ℕ) (g : Limits) (x : Matched) → Local openingAt s (λ z. wordThen z kind g x) (matchedAt x)
-  word-by kind g (Past p) = tail-loc p kind g
-  word-by kind g (Differs p) = ret openingAt s (Broken Shape p) p (omega arith)
+  word-then : (g : Limits) (x : Spelled) → Local openingAt s (λ z. wordThen z g x) (spelledAt x)
+  word-then g (Is w p) = tail-loc p w g
+  word-then g (None p) = ret openingAt s (Broken Shape p) p (omega arith)
 
-  -- after the bracket, by the first letter
-  abbrev letterThen : ℕ → ℕ → Limits → List ℕ → ℕ → Opening
-  letterThen at kinds g z c =
-      cond (leb kinds (kindOf c)) (Broken Shape (at + 1)) (wordThen z (kindOf c) g (matchAt z (at + 2) (wordOf (kindOf c))))
+  spelled-by : (w : Word) (x : Matched) → Local spelledAt s (λ z. spelledOf w x) (matchedAt x)
+  spelled-by w (Past p) = ret spelledAt s (Is w p) p (omega arith)
+  spelled-by w (Differs p) = ret spelledAt s (None p) p (omega arith)
 
-  letter-by : (at kinds : ℕ) (g : Limits) (c : ℕ) → Local openingAt s (λ z. letterThen at kinds g z c) (at + 1)
-  letter-by at kinds g c =
-      let word : List ℕ → Opening = (λ z. wordThen z (kindOf c) g (matchAt z (at + 2) (wordOf (kindOf c)))) in
-      if openingAt s (leb kinds (kindOf c)) (λ z. Broken Shape (at + 1)) word (at + 1)
-      (ret openingAt s (Broken Shape (at + 1)) (at + 1) (omega arith))
-      (later openingAt s word (at + 1) (at + 2) (omega arith)
-      (bind openingAt s matchedAt (λ z. matchAt z (at + 2) (wordOf (kindOf c))) (λ z x. wordThen z (kindOf c) g x) (at + 2)
-      (match-loc (wordOf (kindOf c)) (at + 2)) (word-by (kindOf c) g)))
+  -- the word that begins with a byte
+  letter-loc : (at : ℕ) (ws : List Word) (c : ℕ) → Local spelledAt s (λ z. letterThen z at ws c) at
+  letter-loc at [] c = ret spelledAt s (None at) at (omega arith)
+  letter-loc at (w ∷ ws) c =
+      if spelledAt s (eqb c (first w)) (λ z. spelledOf w (matchAt z at (spelling w))) (λ z. letterThen z at ws c) at
+      (bind spelledAt s matchedAt (λ z. matchAt z at (spelling w)) (λ z x. spelledOf w x) at (match-loc (spelling w) at) (spelled-by w))
+      (letter-loc at ws c)
 
-  head-loc : (at kinds : ℕ) (g : Limits) → Local openingAt s (λ z. headAt z at kinds g) at
+  word-loc : (at : ℕ) (role : Role) → Local spelledAt s (λ z. wordAt z at (wordsFor role)) at
+  word-loc at role =
+      same-loc spelledAt s (λ z. wordAt z at (wordsFor role)) (λ z. letterThen z at (wordsFor role) (byteAt z at)) at
+      (λ z. by-letter z at (wordsFor role) (apart role))
+      (at-byte spelledAt s at (λ z c. letterThen z at (wordsFor role) c) (letter-loc at (wordsFor role)))
+
+  head-loc : (at : ℕ) (role : Role) (g : Limits) → Local openingAt s (λ z. headAt z at role g) at
   unfolding headAt
-  head-loc at kinds g =
-      let letter : List ℕ → Opening = (λ z. letterThen at kinds g z (byteAt z (at + 1))) in
-      at-byte openingAt s at (λ z c. cond (eqb c 40) (letter z) (Broken Shape at))
-      (λ c. if openingAt s (eqb c 40) letter (λ z. Broken Shape at) at
-      (later openingAt s letter at (at + 1) (omega arith) (at-byte openingAt s (at + 1) (letterThen at kinds g) (letter-by at kinds g)))
+  head-loc at role g =
+      let word : List ℕ → Opening = (λ z. wordThen z g (wordAt z (at + 1) (wordsFor role))) in
+      at-byte openingAt s at (λ z c. cond (eqb c 40) (word z) (Broken Shape at))
+      (λ c. if openingAt s (eqb c 40) word (λ z. Broken Shape at) at
+      (later openingAt s word at (at + 1) (omega arith)
+      (bind openingAt s spelledAt (λ z. wordAt z (at + 1) (wordsFor role)) (λ z x. wordThen z g x) (at + 1) (word-loc (at + 1) role)
+      (word-then g)))
       (ret openingAt s (Broken Shape at) at (omega arith)))
 
   -- ---- forms
   close-loc : (at : ℕ) (w : List ℕ) (n room kind x a b : ℕ) → Local steppedAt s (λ z. closeAt z at w n room kind x a b) at
   unfolding closeAt
   close-loc at w n room kind x a b =
-      let full : Stepped = record { step = Stop Capacity at; words = w } in
+      let full : Stepped = record { step = Stop Nodes at; words = w } in
       let made : Stepped = record { step = Made (at + 1) (n + 1) n; words = store w n kind x a b } in
       let shape : Stepped = record { step = Stop Shape at; words = w } in
       at-byte steppedAt s at (λ z c. cond (eqb c 41) (cond (leb room n) full made) shape)
@@ -259,26 +271,26 @@ module _ (s : List ℕ) where
     module _ (lines : List ℕ) (g : Limits) where
       closed-by : (k v : ℕ) (w : List ℕ) (x : Pair) → Local steppedAt s (λ z. closedOf (setting z lines g) k v w x) (pairAt x)
       closed-by k v w (Halt e p) = ret steppedAt s (record { step = Stop e p; words = w }) p (omega arith)
-      closed-by k v w (Two p m a b) = close-loc p w m (g .capacity) k v a b
+      closed-by k v w (Two p m a b) = close-loc p w m (g .room) k v a b
 
       opened-by : (w : List ℕ) (n : ℕ) (o : Opening) → Local steppedAt s (λ z. openedOf (F z) (setting z lines g) w n o) (openingAt o)
       opened-by w n (Broken e p) = ret steppedAt s (record { step = Stop e p; words = w }) p (omega arith)
-      opened-by w n (Leaf k v p) = close-loc p w n (g .capacity) k v 0 0
+      opened-by w n (Leaf k v p) = close-loc p w n (g .room) k v 0 0
       opened-by w n (Line k p) = ret steppedAt s (record { step = Made (p + 1) n (getD lines k 0); words = w }) p (omega arith)
       opened-by w n (Inner k v p) =
           bind steppedAt s pairedAt (λ z. argsWith (F z) z p w n) (λ z r. closedOf (setting z lines g) k v (r .words) (r .pair)) p
           (args-loc p w n) (λ r. closed-by k v (r .words) (r .pair))
 
-  form-loc : (lines : List ℕ) (g : Limits) (d kinds at : ℕ) (w : List ℕ) (n : ℕ)
-      → Local steppedAt s (λ z. formAt d (setting z lines g) kinds at w n) at
+  form-loc : (lines : List ℕ) (g : Limits) (d : ℕ) (role : Role) (at : ℕ) (w : List ℕ) (n : ℕ)
+      → Local steppedAt s (λ z. formAt d (setting z lines g) role at w n) at
   unfolding formAt
-  form-loc lines g zero kinds at w n =
+  form-loc lines g zero role at w n =
       at-byte steppedAt s at (λ z c. record { step = Stop (cond (eqb c 40) Depth Shape) at; words = w })
       (λ c. ret steppedAt s (record { step = Stop (cond (eqb c 40) Depth Shape) at; words = w }) at (omega arith))
-  form-loc lines g (suc d) kinds at w n =
-      bind steppedAt s openingAt (λ z. headAt z at kinds g)
-      (λ z o. openedOf (formAt d (setting z lines g) allKinds) (setting z lines g) w n o) at (head-loc at kinds g)
-      (opened-by (λ z. formAt d (setting z lines g) allKinds) (λ at′ w′ n′. form-loc lines g d allKinds at′ w′ n′) lines g w n)
+  form-loc lines g (suc d) role at w n =
+      bind steppedAt s openingAt (λ z. headAt z at role g)
+      (λ z o. openedOf (formAt d (setting z lines g) Argument) (setting z lines g) w n o) at (head-loc at role g)
+      (opened-by (λ z. formAt d (setting z lines g) Argument) (λ at′ w′ n′. form-loc lines g d Argument at′ w′ n′) lines g w n)
 
 -- ---- an answer that is a refusal; nothing is said of one that is not. `of` is the answer of a reading
 abbrev pub LocalAnswer : {R A : Type 0} → (R → Outcome A) → List ℕ → (List ℕ → R) → ℕ → Type 0
@@ -338,10 +350,10 @@ module _ (s : List ℕ) where
   unfolding linesAt
   lines-loc zero N room lines k at n w = refused-loc answerOf s (answers (refused 15 at) w) 15 at at refl (omega arith)
   lines-loc (suc more) N room lines k at n w =
-      let g : Limits = record { variables = N; capacity = room; earlier = k } in
-      bind-answer answerOf s steppedAt (λ z. formAt 16 (setting z lines g) ownKinds at w n)
+      let g : Limits = record { variables = N; room = room; earlier = k } in
+      bind-answer answerOf s steppedAt (λ z. formAt 16 (setting z lines g) OwnForm at w n)
       (λ z r. lineEnd (λ p m a v. linesAt more z N room (set lines k a) (k + 1) p m v) z N (r .words) (r .step)) at
-      (form-loc s lines g 16 ownKinds at w n)
+      (form-loc s lines g 16 OwnForm at w n)
       (λ r. end-by N (λ z p m a v. linesAt more z N room (set lines k a) (k + 1) p m v)
       (λ p m a v. lines-loc more N room (set lines k a) (k + 1) p m v) (r .words) (r .step))
 

@@ -9,14 +9,14 @@ use lib.ListN.{length, replicate, length-replicate}
 use lib.Seq.{sets, sets-eq}
 use borrow.Author.Tests.{lt-ltb, le-ltb}
 use Rattle.buffers.proofs.Zeros.{drop-zeros}
-use Rattle.circuits.specs.Outcome.{Outcome, answered, refused}
+use Rattle.table.specs.Outcome.{Outcome, answered, refused}
 use Rattle.text.specs.Faults.{treeFaults}
+use Rattle.text.specs.Meaning.{Bytes, IsText, Tells}
 use Rattle.text.specs.Read.{answers, roomOf, readText, ReadOut}
-use Rattle.text.specs.Syntax.{print, compileLines, compile, Tree, Grammatical, Compiled, Within}
+use Rattle.text.specs.Syntax.{print, compileLines, compile, Tree, Compiled, Within}
 use Rattle.text.proofs.Clean.{lines-compiled, tree-clean, clean-tree}
-use Rattle.text.proofs.Grammar.{IsText}
+use Rattle.text.proofs.Readers.{value-not}
 use Rattle.text.proofs.Texts.{AnswerRead, readBody, treeGood, tree-read}
-use Rattle.text.proofs.Spans.{Bytes}
 use Rattle.text.proofs.Viability.{Said, body-said}
 
 -- a text of at most 40,000 bytes is read by its header and lines
@@ -28,16 +28,6 @@ short s m l = rw (le-ltb 40000 (length s) l)
 pub long : (s : List ℕ) (m : ℕ) → 40000 < length s → readText s m ≡ answers (refused 10 40000) (replicate m 0)
 unfolding readText
 long s m l = rw (lt-ltb 40000 (length s) l)
-
--- a tree within the limits that prints to s and stands for these nodes, with m lent words
-pub record Tells (s : List ℕ) (m N n : ℕ) (words : List ℕ) : Type 0 where
-  pub tree : Tree
-  pub grammatical : Grammatical tree
-  pub within : Within (roomOf m) tree
-  pub prints : print tree ≡ s
-  pub variables : tree .variables ≡ N
-  pub nodes : compile tree .nodes ≡ n
-  pub table : compile tree .words ++ replicate (m - 4 * n) 0 ≡ words
 
 room-words : (m : ℕ) → 4 * roomOf m ≤ m
 room-words m = by (decLt (m / 4) 1024)
@@ -69,10 +59,7 @@ read-complete s m N n words h =
     (tree-read t m (h .grammatical)) in
     short s m e ∙ ap (λ (z : List ℕ). readBody z m) (sym (h .prints)) ∙ r
     ∙ ap₂ (λ (y : ℕ × ℕ) (z : List ℕ). answers (answered y) z) (λ i. (h .variables i, h .nodes i))
-    (words-are t m (h .within .capacity) ∙ ap (λ (z : ℕ). compile t .words ++ replicate (m - 4 * z) 0) (h .nodes) ∙ h .table)
-
-pub value-not : {A : Type 0} (v : A) (k p : ℕ) → _≡_ {A = Outcome A} (answered v) (refused k p) → ⊥
-value-not v k p e = let z : _≡_ {A = ℕ} 0 1 = cc in omega arith
+    (words-are t m (h .within .nodes) ∙ ap (λ (z : ℕ). compile t .words ++ replicate (m - 4 * z) 0) (h .nodes) ∙ h .table)
 
 not-long : (s : List ℕ) (m N n : ℕ) (words : List ℕ) → readText s m ≡ answers (answered (N, n)) words → length s ≤ 40000
 not-long s m N n words e = by (decLt 40000 (length s))
@@ -124,6 +111,6 @@ read-sound s m N n words bytes e = from (accepted bytes)
               prints = i;
               variables = ap first v;
               nodes = nodes;
-              table = sym (words-are t m (w .capacity) ∙ ap (λ (z : ℕ). compile t .words ++ replicate (m - 4 * z) 0) nodes) ∙ ap
+              table = sym (words-are t m (w .nodes) ∙ ap (λ (z : ℕ). compile t .words ++ replicate (m - 4 * z) 0) nodes) ∙ ap
                   (λ (z : ReadOut). z .words) good;
             }

@@ -4,12 +4,12 @@ use mathlib.Core.Path.{_≡_}
 use mathlib.Core.Logic.{_⊎_, inl, inr, _≢_}
 use mathlib.Core.List.{List}
 use native.Mathlib.Omega.{arith}
-use native.Mathlib.Decide.{decLt, decLe}
-use borrow.Author.Tests.{eq-eqb, ne-eqb, lt-ltb, le-ltb, le-leb, lt-leb}
+use native.Mathlib.Decide.{decLe}
+use borrow.Author.Tests.{eq-eqb, ne-eqb, le-leb, lt-leb}
 use Rattle.masks.proofs.Tests.{same?}
-use Rattle.text.specs.Read.{byteAt, matchAt, rangedAt, kindOf, ownKinds, allKinds, wordOf, leafOf, innerOf, tailAt}
-use Rattle.text.specs.Read.{wordThen, headAt, closeAt, lastOf, secondOf, argsWith, setting, closedOf, openedOf, formAt}
-use Rattle.text.specs.Read.{Stepped}
+use Rattle.text.specs.Read.{byteAt, rangedAt, leafOf, innerOf, tailAt, wordThen, headAt, closeAt, lastOf, secondOf, argsWith}
+use Rattle.text.specs.Read.{setting, closedOf, openedOf, formAt, Stepped, wordAt}
+use Rattle.text.specs.Words.{wordsFor}
 use Rattle.text.specs.declared.answer.Fault.the-variants.{Range}
 use Rattle.text.specs.declared.answer.Pair.{Pair}
 use Rattle.text.specs.declared.answer.Pair.the-variants.{Halt, Two}
@@ -18,10 +18,14 @@ use Rattle.text.specs.declared.answer.Step.the-variants.{Stop, Made}
 use Rattle.text.specs.declared.head.InRange.{InRange}
 use Rattle.text.specs.declared.head.InRange.the-variants.{Inside, Unfit}
 use Rattle.text.specs.declared.head.Limits.{Limits}
-use Rattle.text.specs.declared.head.Matched.{Matched}
-use Rattle.text.specs.declared.head.Matched.the-variants.{Past, Differs}
 use Rattle.text.specs.declared.head.Opening.{Opening}
 use Rattle.text.specs.declared.head.Opening.the-variants.{Broken, Leaf, Inner, Line}
+use Rattle.text.specs.declared.head.Role.{Role}
+use Rattle.text.specs.declared.head.Role.the-variants.{OwnForm, Argument}
+use Rattle.text.specs.declared.head.Spelled.{Spelled}
+use Rattle.text.specs.declared.head.Spelled.the-variants.{Is, None}
+use Rattle.text.specs.declared.head.Word.the-variants.{False, True, Yes, No, Pick, Both, Line as LineWord}
+use Rattle.text.proofs.Words.{May, OneOf, one-of, each-may}
 
 -- not the head of a form that refers to an earlier line
 abbrev NotLine : Opening → Type 0
@@ -61,33 +65,26 @@ grown-more n l room (Made p m a) h k = omega arith
 grown-more n l room (Stop f p) h k = tt
 
 module _ (s : List ℕ) where
-  tail-not : (at kind : ℕ) (g : Limits) → kind < 6 → NotLine (tailAt s at kind g)
+  word-not : (g : Limits) (x : Spelled) → OneOf (May OwnForm) x → NotLine (wordThen s g x)
   unfolding tailAt
-  tail-not at kind g l = by (decLt kind 2) (decLt kind 4) (same? kind 4) (same? kind 5)
-    where
-      by : Dec (kind < 2) → Dec (kind < 4) → (kind ≡ 4) ⊎ (kind ≢ 4) → (kind ≡ 5) ⊎ (kind ≢ 5) → NotLine (tailAt s at kind g)
-      by (yes a) b c d = rw (lt-ltb kind 2 a) tt
-      by (no a) (yes b) c d = rw (le-ltb kind 2 (omega arith), lt-ltb kind 4 b) (leaf-not kind (rangedAt s at 0 (g .variables) 41 Range))
-      by (no a) (no b) (inl c) d =
-          rw (le-ltb kind 2 (omega arith), le-ltb kind 4 (omega arith), eq-eqb kind 4 c)
-          (inner-not kind (rangedAt s at 0 (g .variables) 32 Range))
-      by (no a) (no b) (inr c) (inl d) = rw (le-ltb kind 2 (omega arith), le-ltb kind 4 (omega arith), ne-eqb kind 4 c, eq-eqb kind 5 d) tt
-      by (no a) (no b) (inr c) (inr d) = absurd (omega arith)
+  word-not g (None p) m = tt
+  word-not g (Is False p) m = tt
+  word-not g (Is True p) m = tt
+  word-not g (Is Yes p) m = leaf-not 2 (rangedAt s p 0 (g .variables) 41 Range)
+  word-not g (Is No p) m = leaf-not 3 (rangedAt s p 0 (g .variables) 41 Range)
+  word-not g (Is Pick p) m = inner-not 4 (rangedAt s p 0 (g .variables) 32 Range)
+  word-not g (Is Both p) m = tt
+  word-not g (Is LineWord p) m = absurd m
 
-  word-not : (kind : ℕ) (g : Limits) → kind < 6 → (m : Matched) → NotLine (wordThen s kind g m)
-  word-not kind g l (Past p) = tail-not p kind g l
-  word-not kind g l (Differs p) = tt
-
-  head-not : (at : ℕ) (g : Limits) → NotLine (headAt s at ownKinds g)
+  head-not : (at : ℕ) (g : Limits) → NotLine (headAt s at OwnForm g)
   unfolding headAt
-  head-not at g = by (same? (byteAt s at) 40) (decLe 6 (kindOf (byteAt s (at + 1))))
+  head-not at g = by (same? (byteAt s at) 40)
     where
-      by : (byteAt s at ≡ 40) ⊎ (byteAt s at ≢ 40) → Dec (6 ≤ kindOf (byteAt s (at + 1))) → NotLine (headAt s at ownKinds g)
-      by (inr n) k = rw (ne-eqb (byteAt s at) 40 n) tt
-      by (inl e) (yes k) = rw (eq-eqb (byteAt s at) 40 e, le-leb 6 (kindOf (byteAt s (at + 1))) k) tt
-      by (inl e) (no k) =
-          rw (eq-eqb (byteAt s at) 40 e, lt-leb 6 (kindOf (byteAt s (at + 1))) (omega arith))
-          (word-not (kindOf (byteAt s (at + 1))) g (omega arith) (matchAt s (at + 2) (wordOf (kindOf (byteAt s (at + 1))))))
+      by : (byteAt s at ≡ 40) ⊎ (byteAt s at ≢ 40) → NotLine (headAt s at OwnForm g)
+      by (inr n) = rw (ne-eqb (byteAt s at) 40 n) tt
+      by (inl e) =
+          rw (eq-eqb (byteAt s at) 40 e)
+          (word-not g (wordAt s (at + 1) (wordsFor OwnForm)) (one-of (May OwnForm) s (at + 1) (wordsFor OwnForm) (each-may OwnForm)))
 
   close-grown : (at : ℕ) (w : List ℕ) (n room k v a b : ℕ) → Grown n room (closeAt s at w n room k v a b .step)
   unfolding closeAt
@@ -120,15 +117,15 @@ module _ (s : List ℕ) where
         by (inr e) = rw (ne-eqb (byteAt s at) 32 e) tt
         by (inl e) = rw (eq-eqb (byteAt s at) 32 e) (least-second n (F (at + 1) w n .words) (F (at + 1) w n .step) (f (at + 1) w n))
 
-    grown-closed : (n k v : ℕ) (w : List ℕ) (r : Pair) → PairAtLeast n r → Grown n (g .capacity)
+    grown-closed : (n k v : ℕ) (w : List ℕ) (r : Pair) → PairAtLeast n r → Grown n (g .room)
         (closedOf (setting s lines g) k v w r .step)
     grown-closed n k v w (Halt e p) h = tt
     grown-closed n k v w (Two p m a b) h =
-        grown-more m n (g .capacity) (closeAt s p w m (g .capacity) k v a b .step) h (close-grown p w m (g .capacity) k v a b)
+        grown-more m n (g .room) (closeAt s p w m (g .room) k v a b .step) h (close-grown p w m (g .room) k v a b)
 
-    grown-opened : (w : List ℕ) (n : ℕ) (o : Opening) → NotLine o → Grown n (g .capacity) (openedOf F (setting s lines g) w n o .step)
+    grown-opened : (w : List ℕ) (n : ℕ) (o : Opening) → NotLine o → Grown n (g .room) (openedOf F (setting s lines g) w n o .step)
     grown-opened w n (Broken e p) h = tt
-    grown-opened w n (Leaf k v p) h = close-grown p w n (g .capacity) k v 0 0
+    grown-opened w n (Leaf k v p) h = close-grown p w n (g .room) k v 0 0
     grown-opened w n (Line k p) h = absurd h
     grown-opened w n (Inner k v p) h =
         grown-closed n k v (argsWith F s p w n .words) (argsWith F s p w n .pair) (least-args p w n)
@@ -136,23 +133,23 @@ module _ (s : List ℕ) where
     least-opened : (w : List ℕ) (n : ℕ) (o : Opening) → AtLeast n (openedOf F (setting s lines g) w n o .step)
     least-opened w n (Broken e p) = tt
     least-opened w n (Leaf k v p) =
-        grown-least n n (g .capacity) (closeAt s p w n (g .capacity) k v 0 0 .step) (omega arith) (close-grown p w n (g .capacity) k v 0 0)
+        grown-least n n (g .room) (closeAt s p w n (g .room) k v 0 0 .step) (omega arith) (close-grown p w n (g .room) k v 0 0)
     least-opened w n (Line k p) = omega arith
     least-opened w n (Inner k v p) =
-        grown-least n n (g .capacity) (closedOf (setting s lines g) k v (argsWith F s p w n .words) (argsWith F s p w n .pair) .step)
+        grown-least n n (g .room) (closedOf (setting s lines g) k v (argsWith F s p w n .words) (argsWith F s p w n .pair) .step)
         (omega arith)
         (grown-closed n k v (argsWith F s p w n .words) (argsWith F s p w n .pair) (least-args p w n))
 
-  form-least : (lines : List ℕ) (g : Limits) (d kinds at : ℕ) (w : List ℕ) (n : ℕ)
-      → AtLeast n (formAt d (setting s lines g) kinds at w n .step)
+  form-least : (lines : List ℕ) (g : Limits) (d : ℕ) (role : Role) (at : ℕ) (w : List ℕ) (n : ℕ)
+      → AtLeast n (formAt d (setting s lines g) role at w n .step)
   unfolding formAt
-  form-least lines g zero kinds at w n = tt
-  form-least lines g (suc d) kinds at w n =
-      least-opened lines g (formAt d (setting s lines g) allKinds) (λ p v m. form-least lines g d allKinds p v m) w n (headAt s at kinds g)
+  form-least lines g zero role at w n = tt
+  form-least lines g (suc d) role at w n =
+      least-opened lines g (formAt d (setting s lines g) Argument) (λ p v m. form-least lines g d Argument p v m) w n (headAt s at role g)
 
   pub own-grown : (lines : List ℕ) (g : Limits) (d at : ℕ) (w : List ℕ) (n : ℕ)
-      → Grown n (g .capacity) (formAt (suc d) (setting s lines g) ownKinds at w n .step)
+      → Grown n (g .room) (formAt (suc d) (setting s lines g) OwnForm at w n .step)
   unfolding formAt
   own-grown lines g d at w n =
-      grown-opened lines g (formAt d (setting s lines g) allKinds) (λ p v m. form-least lines g d allKinds p v m) w n
-      (headAt s at ownKinds g) (head-not at g)
+      grown-opened lines g (formAt d (setting s lines g) Argument) (λ p v m. form-least lines g d Argument p v m) w n
+      (headAt s at OwnForm g) (head-not at g)

@@ -10,8 +10,8 @@ use lib.ListN.{length, set, length-append}
 use lib.Seq.{sets}
 use Rattle.text.specs.Faults.{nodesIn}
 use Rattle.text.specs.Read.{store, Stepped}
-use Rattle.text.specs.Syntax.{printForm, compileForm, Compiled, Form, constantForm, literalForm, decisionForm}
-use Rattle.text.specs.Syntax.{conjunctionForm, lineForm}
+use Rattle.text.specs.Syntax.{printForm, compileForm, Compiled, Form, constantForm, literalForm, decisionForm, conjunctionForm}
+use Rattle.text.specs.Syntax.{lineForm}
 use Rattle.text.specs.declared.answer.Step.the-variants.{Made}
 
 -- a run of stores after another

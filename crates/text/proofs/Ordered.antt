@@ -6,16 +6,11 @@ use mathlib.Core.List.{List, [], _∷_, _++_}
 use native.Mathlib.Omega.{arith}
 use lib.Dec.{ltb, leb}
 use lib.ListN.{length, length-append}
-use Rattle.text.specs.Faults.{unless, nodesIn, closing, formFaults, linesFaults, treeFaults}
+use Rattle.text.specs.Faults.{Between, unless, nodesIn, closing, formFaults, linesFaults, treeFaults}
 use Rattle.text.specs.Syntax.{decimal, printForm, printLines, print, Tree, Form, constantForm, literalForm, decisionForm}
 use Rattle.text.specs.Syntax.{conjunctionForm, lineForm}
 use Rattle.text.proofs.Spelling.{constant-length, literal-length, line-length, decision-length, conjunction-length, begins}
 use Rattle.text.proofs.Texts.{header-flat}
-
--- places from lo to hi, none below the one before
-abbrev pub Between : ℕ → ℕ → List (ℕ × ℕ) → Type 0
-Between lo hi [] = lo ≤ hi
-Between lo hi (e ∷ fs) = (lo ≤ e .1) × Between (e .1) hi fs
 
 lower : (lo mid hi : ℕ) (fs : List (ℕ × ℕ)) → lo ≤ mid → Between mid hi fs → Between lo hi fs
 lower lo mid hi [] l b = omega arith

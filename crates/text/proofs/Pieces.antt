@@ -9,14 +9,21 @@ use native.Mathlib.Decide.{decLt}
 use lib.Dec.{ltb, leb}
 use lib.ListN.{length, getD, drop, length-append}
 use lib.Seq.{drop-drop, drop-append-seam, getD-drop}
-use borrow.Author.Tests.{eq-eqb, ne-eqb, lt-ltb, le-ltb, lt-leb}
-use Rattle.text.specs.Read.{byteAt, digitAt, digitsAt, numberAt, matchAt, rangedAt, kindOf, wordOf, tailAt, headAt}
+use borrow.Author.Tests.{eq-eqb, ne-eqb, lt-ltb, le-ltb}
+use Rattle.text.specs.Read.{byteAt, digitAt, digitsAt, numberAt, matchAt, rangedAt, wordAt, tailAt, headAt}
 use Rattle.text.specs.Syntax.{decimal}
+use Rattle.text.specs.Words.{spelling, wordsFor}
 use Rattle.text.specs.declared.answer.Fault.{Fault}
 use Rattle.text.specs.declared.head.InRange.the-variants.{Inside, Unfit}
 use Rattle.text.specs.declared.head.Limits.{Limits}
 use Rattle.text.specs.declared.head.Matched.the-variants.{Past}
+use Rattle.text.specs.declared.head.Role.{Role}
+use Rattle.text.specs.declared.head.Role.the-variants.{OwnForm, Argument}
+use Rattle.text.specs.declared.head.Spelled.the-variants.{Is}
+use Rattle.text.specs.declared.head.Word.{Word}
+use Rattle.text.specs.declared.head.Word.the-variants.{False, True, Yes, No, Pick, Both, Line}
 use Rattle.text.specs.declared.number.Numeral.the-variants.{Value}
+use Rattle.text.proofs.Words.{May, first, spelt, apart, spelledOf, letterThen, by-letter}
 
 -- r is what is left of s from a place on
 abbrev pub Here : List ℕ → ℕ → List ℕ → Type 0
@@ -202,17 +209,29 @@ module _ (s : List ℕ) where
       let p : ℕ = at + length (decimal v) in
       rw (number v end r at le lv h, eq-eqb (byteAt s p) end (byte p end r (past at (decimal v) (end ∷ r) h)))
 
-  -- a form's bracket, first letter and word
-  pub opening : (c k kinds at : ℕ) (g : Limits) (r : List ℕ) → kindOf c ≡ k → k < kinds → Here s at (40 ∷ c ∷ (wordOf k ++ r))
-      → headAt s at kinds g ≡ tailAt s (at + 2 + length (wordOf k)) k g
+  -- ---- words
+  starts : (w : Word) (at : ℕ) (r : List ℕ) → Here s at (spelling w ++ r) → byteAt s at ≡ first w
+  starts w at r h = byte at (first w) (drop 1 (spelling w) ++ r) (subst (λ (z : List ℕ). Here s at (z ++ r)) (spelt w) h)
+
+  -- a word is the one that begins with its first byte
+  letter : (w : Word) (role : Role) (at : ℕ) → May role w
+      → letterThen s at (wordsFor role) (first w) ≡ spelledOf w (matchAt s at (spelling w))
+  letter False role at m = refl
+  letter True role at m = refl
+  letter Yes role at m = refl
+  letter No role at m = refl
+  letter Pick role at m = refl
+  letter Both role at m = refl
+  letter Line Argument at m = refl
+  letter Line OwnForm at m = absurd m
+
+  -- a form's bracket and word
+  pub opening : (w : Word) (role : Role) (at : ℕ) (g : Limits) (r : List ℕ) → May role w → Here s at (40 ∷ (spelling w ++ r))
+      → headAt s at role g ≡ tailAt s (at + 1 + length (spelling w)) w g
   unfolding headAt
-  opening c k kinds at g r ek l h =
-      let h₁ : Here s (at + 1) (c ∷ (wordOf k ++ r)) = next at 40 (c ∷ (wordOf k ++ r)) h in
-      let h₂ : Here s (at + 2) (wordOf k ++ r) = past at (40 ∷ c ∷ []) (wordOf k ++ r) h in
-      rw (
-        eq-eqb (byteAt s at) 40 (byte at 40 (c ∷ (wordOf k ++ r)) h),
-        byte (at + 1) c (wordOf k ++ r) h₁,
-        ek,
-        lt-leb kinds k l,
-        matched (wordOf k) r (at + 2) h₂,
-      )
+  opening w role at g r m h =
+      let h₁ : Here s (at + 1) (spelling w ++ r) = next at 40 (spelling w ++ r) h in
+      let e : wordAt s (at + 1) (wordsFor role) ≡ Is w (at + 1 + length (spelling w)) =
+      by-letter s (at + 1) (wordsFor role) (apart role) ∙ ap (letterThen s (at + 1) (wordsFor role)) (starts w (at + 1) r h₁)
+      ∙ letter w role (at + 1) m ∙ ap (spelledOf w) (matched (spelling w) r (at + 1) h₁) in
+      rw (eq-eqb (byteAt s at) 40 (byte at 40 (spelling w ++ r) h), e)

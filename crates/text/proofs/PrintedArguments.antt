@@ -8,8 +8,8 @@ use lib.ListN.{length}
 use lib.Seq.{sets}
 use borrow.Author.Tests.{eq-eqb}
 use Rattle.text.specs.Faults.{unless, nodesIn, formFaults}
-use Rattle.text.specs.Read.{byteAt, allKinds, headAt, closeAt, lastOf, secondOf, argsWith, setting, closedOf, formAt}
-use Rattle.text.specs.Read.{Stepped, Paired, Setting}
+use Rattle.text.specs.Read.{byteAt, headAt, closeAt, lastOf, secondOf, argsWith, setting, closedOf, formAt, Stepped, Paired}
+use Rattle.text.specs.Read.{Setting}
 use Rattle.text.specs.Syntax.{printForm, Below, compileForm, Form}
 use Rattle.text.specs.declared.answer.Pair.{Pair}
 use Rattle.text.specs.declared.answer.Pair.the-variants.{Two}
@@ -17,6 +17,8 @@ use Rattle.text.specs.declared.answer.Step.{Step}
 use Rattle.text.specs.declared.answer.Step.the-variants.{Made}
 use Rattle.text.specs.declared.head.Limits.{Limits}
 use Rattle.text.specs.declared.head.Opening.the-variants.{Inner}
+use Rattle.text.specs.declared.head.Role.{Role}
+use Rattle.text.specs.declared.head.Role.the-variants.{Argument}
 use Rattle.text.proofs.FirstFault.{StepRead, PairRead}
 use Rattle.text.proofs.NodeWords.{result, inner-words}
 use Rattle.text.proofs.Pieces.{Here, byte, past, next}
@@ -25,7 +27,7 @@ use Rattle.text.proofs.Spelling.{argsText}
 
 module _ (s : List ℕ) (N k room : ℕ) (lines : List ℕ) where
   abbrev lim : Limits
-  lim = record { variables = N; capacity = room; earlier = k }
+  lim = record { variables = N; room = room; earlier = k }
 
   abbrev G : Setting
   G = setting s lines lim
@@ -51,7 +53,7 @@ module _ (s : List ℕ) (N k room : ℕ) (lines : List ℕ) where
   abbrev pub FormsRead : ℕ → Type 0
   FormsRead d =
       (f : Form) (at : ℕ) (w : List ℕ) (n : ℕ) (r : List ℕ) → Below 10000 10000 f → Here s at (printForm f ++ r)
-      → StepRead (formFaults N k room d at n f) (result lines f at w n) (formAt d G allKinds at w n)
+      → StepRead (formFaults N k room d at n f) (result lines f at w n) (formAt d G Argument at w n)
 
   module _ (d : ℕ) (ih : FormsRead d) where
     args-read : (f g : Form) (p : ℕ) (w : List ℕ) (n : ℕ) (r : List ℕ) → Below 10000 10000 f → Below 10000 10000 g
@@ -63,12 +65,12 @@ module _ (s : List ℕ) (N k room : ℕ) (lines : List ℕ) where
           pair = Two (q + 1 + length (printForm g)) (m + nodesIn g) (compileForm lines n f .node) (compileForm lines m g .node);
           words = sets (sets w (4 * n) (compileForm lines n f .words)) (4 * m) (compileForm lines m g .words);
         })
-        (argsWith (formAt d G allKinds) s p w n)
+        (argsWith (formAt d G Argument) s p w n)
     unfolding argsWith
     args-read f g p w n r bf bg h =
         let q : ℕ = p + 1 + length (printForm f) in
         let m : ℕ = n + nodesIn f in
-        let F : ℕ → List ℕ → ℕ → Stepped = formAt d G allKinds in
+        let F : ℕ → List ℕ → ℕ → Stepped = formAt d G Argument in
         let w₁ : List ℕ = sets w (4 * n) (compileForm lines n f .words) in
         let h₁ : Here s (p + 1) (printForm f ++ (32 ∷ (printForm g ++ (41 ∷ r)))) =
         next s p 32 (printForm f ++ (32 ∷ (printForm g ++ (41 ∷ r)))) h in
@@ -93,8 +95,8 @@ module _ (s : List ℕ) (N k room : ℕ) (lines : List ℕ) where
         (ih g (q + 1) w₁ m (41 ∷ r) bg h₃) refl)))
 
     -- after a head that two arguments follow
-    pub inner-read : (kind x kinds at p : ℕ) (f g : Form) (w : List ℕ) (n : ℕ) (r : List ℕ) → Below 10000 10000 f → Below 10000 10000 g
-        → headAt s at kinds lim ≡ Inner kind x p → Here s p (argsText f g r)
+    pub inner-read : (kind x : ℕ) (role : Role) (at p : ℕ) (f g : Form) (w : List ℕ) (n : ℕ) (r : List ℕ)
+        → Below 10000 10000 f → Below 10000 10000 g → headAt s at role lim ≡ Inner kind x p → Here s p (argsText f g r)
         → let q : ℕ = p + 1 + length (printForm f) in
         let m : ℕ = n + nodesIn f in
         let c : ℕ = q + 1 + length (printForm g) in
@@ -104,8 +106,8 @@ module _ (s : List ℕ) (N k room : ℕ) (lines : List ℕ) where
           words = sets w (4 * n) ((compileForm lines n f .words ++ compileForm lines m g .words)
               ++ (kind ∷ x ∷ compileForm lines n f .node ∷ compileForm lines m g .node ∷ []));
         })
-        (formAt (suc d) G kinds at w n)
-    inner-read kind x kinds at p f g w n r bf bg e h =
+        (formAt (suc d) G role at w n)
+    inner-read kind x role at p f g w n r bf bg e h =
         let q : ℕ = p + 1 + length (printForm f) in
         let m : ℕ = n + nodesIn f in
         let c : ℕ = q + 1 + length (printForm g) in
@@ -129,7 +131,7 @@ module _ (s : List ℕ) (N k room : ℕ) (lines : List ℕ) where
         (inner-words lines f g w n kind x)
         (close-read s N k room lines c w₂ (m + nodesIn g) kind x a b r (past s (q + 1) (printForm g) (41 ∷ r) h₁)) in
         subst (StepRead (fs ++ unless (ltb (m + nodesIn g) room) 15 c) done)
-        (sym (by-head s N k room lines d kinds at w n (Inner kind x p) e))
+        (sym (by-head s N k room lines d role at w n (Inner kind x p) e))
         (args-then kind x fs (unless (ltb (m + nodesIn g) room) 15 c)
         (record { pair = Two c (m + nodesIn g) a b; words = w₂ })
-        (argsWith (formAt d G allKinds) s p w n) done (args-read f g p w n r bf bg h) close)
+        (argsWith (formAt d G Argument) s p w n) done (args-read f g p w n r bf bg h) close)

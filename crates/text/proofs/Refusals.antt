@@ -1,29 +1,27 @@
--- Where a refusal of a circuit text stands: 11 at the first byte with which no text of the grammar goes on, or at the end;
--- any other at the first fault of every text of the grammar that goes on from there.
-use Prim.Native.Nat.{ℕ, zero, suc, _+_, _-_, _/_, _%_, _<_, _≤_}
-use mathlib.Core.Path.{_≡_, refl, sym, ap, subst, _∙_}
+-- What is known of the reader of circuit text (`Readers`): it reads a printed tree as its first fault, its refusals are local, and
+-- the bytes before a refusal are viable.
+use Prim.Native.Nat.{ℕ, _+_, _/_, _%_, _≤_}
+use mathlib.Core.Path.{_≡_, ap, subst}
 use mathlib.Core.Bool.{Bool, true, false, cond}
-use mathlib.Core.Logic.{_≢_}
 use mathlib.Core.List.{List, [], _∷_, _++_}
-use native.Mathlib.Nat.{mod-lt, zero-lt-suc, lt-irrefl}
+use native.Mathlib.Nat.{mod-lt, zero-lt-suc}
 use native.Mathlib.Omega.{arith}
-use native.Mathlib.Decide.{decLt, decLe}
 use lib.Dec.{ltb}
-use lib.ListN.{length, getD, take, length-append, replicate, length-replicate, List·getD-append, List·getD-eq-default}
-use lib.Seq.{getD-append-add, length-take-le, getD-take}
-use borrow.Author.Tests.{ne-eqb}
-use Rattle.circuits.specs.Outcome.{Outcome, refused}
+use lib.ListN.{replicate}
+use Rattle.table.specs.Outcome.{Outcome, answered, refused}
 use Rattle.text.specs.Ascii.{ascii}
 use Rattle.text.specs.Faults.{treeFaults}
-use Rattle.text.specs.Read.{byteAt, roomOf, readText, ReadOut}
-use Rattle.text.specs.Syntax.{digitText, decimal, printForm, printLines, print, Viable, compile, Tree, Grammatical, Form}
-use Rattle.text.specs.Syntax.{constantForm, literalForm, decisionForm, conjunctionForm, lineForm}
-use Rattle.text.proofs.Clean.{Big, tree-big}
-use Rattle.text.proofs.Grammar.{IsText}
-use Rattle.text.proofs.Locality.{SameTo, body-local}
-use Rattle.text.proofs.Meaning.{short, long, value-not}
+use Rattle.text.specs.Limits.{maxLines}
+use Rattle.text.specs.Meaning.{Bytes}
+use Rattle.text.specs.Read.{headerAt, answers, roomOf, settled, bodyOf, linesAt, ReadOut}
+use Rattle.text.specs.Syntax.{digitText, decimal, printForm, printLines, print, compile, Tree, Grammatical, Form, constantForm}
+use Rattle.text.specs.Syntax.{literalForm, decisionForm, conjunctionForm, lineForm}
+use Rattle.text.specs.declared.head.InRange.{InRange}
+use Rattle.text.specs.declared.head.InRange.the-variants.{Inside, Unfit}
+use Rattle.text.proofs.Clean.{numbered-first, OfTree, tree-numbered}
+use Rattle.text.proofs.Locality.{body-local}
+use Rattle.text.proofs.Readers.{Reader, value-not}
 use Rattle.text.proofs.Texts.{AnswerRead, readBody, treeGood, tree-read}
-use Rattle.text.proofs.Spans.{viableTo, Bytes, past-end}
 use Rattle.text.proofs.Viability.{Said, body-said}
 
 -- ---- the bytes of a printed text are bytes
@@ -84,129 +82,36 @@ print-bytes t =
     bytes-append ((ascii "(circuit " ++ decimal (t .variables)) ++ (41 ∷ 10 ∷ [])) (printLines (t .lines))
     (worded (ascii "(circuit ") (t .variables) (41 ∷ 10 ∷ []) (omega arith) (omega arith)) (lines-bytes (t .lines))
 
--- ---- texts that begin alike
-pub begins-same : (s s′ rest : List ℕ) (p : ℕ) → p < length s → take (p + 1) s ++ rest ≡ s′ → SameTo s s′ p
-begins-same s s′ rest p l e i h =
-    let n : length (take (p + 1) s) ≡ p + 1 = length-take-le (p + 1) s (omega arith) in
-    ap (λ (z : List ℕ). byteAt z i) (sym e) ∙ List·getD-append (take (p + 1) s) rest 256 i (omega arith)
-    ∙ getD-take (p + 1) s i 256 (omega arith)
+-- ---- the reader
+pub fault-number : (room : ℕ) (t : Tree) (k p : ℕ) (fs : List (ℕ × ℕ)) → treeFaults room t ≡ (k, p) ∷ fs → (12 ≤ k) × (k ≤ 15)
+fault-number room t k p fs c = numbered-first OfTree (treeFaults room t) fs k p (tree-numbered room t) c
 
--- ---- places
--- the text with its end made visible: no text of the grammar has such a byte
-abbrev pub marked : List ℕ → ℕ → List ℕ
-marked s k = s ++ replicate k 256
-
-pub marked-same : (s : List ℕ) (k p : ℕ) → SameTo s (marked s k) p
-marked-same s k p i l = by (decLt i (length s))
-  where
-    past-all : (k j : ℕ) → getD (replicate {A = ℕ} k 256) j 256 ≡ 256
-    past-all zero j = refl
-    past-all (suc k) zero = refl
-    past-all (suc k) (suc j) = past-all k j
-
-    by : Dec (i < length s) → byteAt (marked s k) i ≡ byteAt s i
-    by (yes h) = List·getD-append s (replicate k 256) 256 i h
-    by (no h) =
-        let e : i ≡ length s + (i - length s) = omega arith in
-        ap (λ (z : ℕ). getD (marked s k) z 256) e ∙ getD-append-add s (replicate k 256) (i - length s) 256 ∙ past-all k (i - length s)
-        ∙ sym (List·getD-eq-default s 256 (omega arith))
-
--- bytes that a printed text begins with lie inside the text that was read
-pub printed-inside : (s : List ℕ) (q k : ℕ) (t rest : List ℕ) → Bytes t → q ≤ length s + k → take q (marked s k) ++ rest ≡ t → q ≤ length s
-printed-inside s q k t rest bytes l e = by (decLe q (length s))
-  where
-    by : Dec (q ≤ length s) → q ≤ length s
-    by (yes h) = h
-    by (no h) =
-        let i : ℕ = length s in
-        let n : length (marked s k) ≡ length s + k =
-        length-append s (replicate k 256) ∙ ap (λ (z : ℕ). length s + z) (length-replicate {A = ℕ} k 256) in
-        let m : length (take q (marked s k)) ≡ q = length-take-le q (marked s k) (omega arith) in
-        let c : getD t i 256 ≡ 256 =
-        ap (λ (z : List ℕ). getD z i 256) (sym e) ∙ List·getD-append (take q (marked s k)) rest 256 i (omega arith)
-        ∙ getD-take q (marked s k) i 256 (omega arith) ∙ marked-same s k i i (omega arith)
-        ∙ List·getD-eq-default s 256 (omega arith) in
-        let j : i < length t = omega (arith, ap length e, length-append (take q (marked s k)) rest) in
-        absurd (omega (arith, past-end t i bytes c, j))
-
-module _ (s : List ℕ) (m k p : ℕ) (h : readBody s m .answer ≡ refused k p) where
-  said : Said s (refused k p)
-  said = subst (Said s) h (body-said s m)
-
-  place-inside : viableTo k p ≤ length s
-  place-inside =
-      let q : ℕ = viableTo k p in
-      let (t, rest, gr, e) =
-      subst (Said (marked s q)) (body-local s m k p h .1 (marked s q) (marked-same s q p)) (body-said (marked s q) m) in
-      printed-inside s q q (print t) rest (print-bytes t) (omega arith) e
-
-  -- a tree that goes on from the place is refused there too
-  goes-on : (t : Tree) (rest : List ℕ) → p < length s → take (p + 1) s ++ rest ≡ print t → readBody (print t) m .answer ≡ refused k p
-  goes-on t rest l e = body-local s m k p h .1 (print t) (begins-same s (print t) rest p l e)
-
-pub same-number : {A : Type 0} (e p e′ p′ : ℕ) → _≡_ {A = Outcome A} (refused e p) (refused e′ p′) → (e ≡ e′) × (p ≡ p′)
-same-number e p e′ p′ h = (cc, cc)
-
--- a printed tree is refused by its first fault
-tree-refused : (t : Tree) (m k p : ℕ) → Grammatical t → readBody (print t) m .answer ≡ refused k p
-    → (fs : List (ℕ × ℕ)) × (treeFaults (roomOf m) t ≡ (k, p) ∷ fs)
-tree-refused t m k p gr h = by (treeFaults (roomOf m) t) refl (tree-read t m gr)
-  where
-    by : (fs : List (ℕ × ℕ)) → treeFaults (roomOf m) t ≡ fs → AnswerRead fs (treeGood t m) (readBody (print t) m)
-        → (fs : List (ℕ × ℕ)) × (treeFaults (roomOf m) t ≡ (k, p) ∷ fs)
-    by [] c r =
-        absurd (value-not (t .variables, compile t .nodes) k p (ap (λ (z : ReadOut). z .answer) (sym r) ∙ h))
-    by (e ∷ fs) c r =
-        let (i, j) = same-number (e .0) (e .1) k p (sym r ∙ h) in
-        (fs, c ∙ ap (λ (z : ℕ × ℕ). z ∷ fs) (λ d. (i d, j d)))
-
--- no text of the grammar is refused with 11
-tree-shape : (t : Tree) (m p : ℕ) → Grammatical t → readBody (print t) m .answer ≡ refused 11 p → ⊥
-tree-shape t m p gr h =
-    let (fs, e) = tree-refused t m 11 p gr h in
-    let b : Big ((11, p) ∷ fs) = subst Big e (tree-big (roomOf m) t) in
-    lt-irrefl 11 (b .0)
-
--- ---- the theorems
-refused-short : (s : List ℕ) (m k p : ℕ) → readText s m .answer ≡ refused k p → k ≢ 10 → readBody s m .answer ≡ refused k p
-refused-short s m k p h n = by (decLt 40000 (length s))
-  where
-    by : Dec (40000 < length s) → readBody s m .answer ≡ refused k p
-    by (no l) = ap (λ (z : ReadOut). z .answer) (sym (short s m (omega arith))) ∙ h
-    by (yes l) =
-        absurd (n (sym (same-number 10 40000 k p (ap (λ (z : ReadOut). z .answer) (sym (long s m l)) ∙ h) .0)))
-
--- 11 stands at the first byte with which no text of the grammar goes on, or at the end of what is none
-pub record FirstWrong (s : List ℕ) (p : ℕ) : Type 0 where
-  pub inside : p ≤ length s
-  pub before : Viable (take p s)
-  pub here : p < length s → Viable (take (p + 1) s) → ⊥
-  pub none : IsText s → ⊥
-
-pub shape-first : (s : List ℕ) (m p : ℕ) → readText s m .answer ≡ refused 11 p → FirstWrong s p
-shape-first s m p h =
-    let b : readBody s m .answer ≡ refused 11 p = refused-short s m 11 p h (omega arith) in
+pub text-reader : (m : ℕ) → Reader Grammatical print (treeFaults (roomOf m)) 11 (λ s. readBody s m .answer)
+text-reader m =
     record {
-      inside = place-inside s m 11 p b;
-      before = said s m 11 p b;
-      here = λ l v. let (t, rest, gr, e) = v in tree-shape t m p gr (goes-on s m 11 p b t rest l e);
-      none = λ v. let (t, gr, e) = v in tree-shape t m p gr (ap (λ (z : List ℕ). readBody z m .answer) e ∙ b);
+      bytes = print-bytes;
+      other = λ t k p fs c e. let l : 12 ≤ k = fault-number (roomOf m) t k p fs c .0 in absurd (omega arith);
+      clean = λ t gr c. ((t .variables, compile t .nodes), ap (λ (z : ReadOut). z .answer) (reads t gr [] c));
+      faulty = λ t k p fs gr c. reads t gr ((k, p) ∷ fs) c;
+      local = λ s s′ k p h a. body-local s m k p h .1 s′ a;
+      viable = λ s k p h. subst (Said s) h (body-said s m);
+      whole = λ s v b h. subst (Said s) h (body-said s m) b;
     }
+  where
+    reads : (t : Tree) → Grammatical t → (fs : List (ℕ × ℕ)) → treeFaults (roomOf m) t ≡ fs
+        → AnswerRead fs (treeGood t m) (readBody (print t) m)
+    reads t gr fs c = subst (λ (z : List (ℕ × ℕ)). AnswerRead z (treeGood t m) (readBody (print t) m)) c (tree-read t m gr)
 
--- 12 to 15 stand at the first fault of every text of the grammar that begins with the bytes up to there, and there is one
-pub record FirstFault (s : List ℕ) (m k p : ℕ) : Type 0 where
-  pub inside : p < length s
-  pub viable : Viable (take (p + 1) s)
-  pub first : (t : Tree) (rest : List ℕ) → Grammatical t → take (p + 1) s ++ rest ≡ print t
-      → (fs : List (ℕ × ℕ)) × (treeFaults (roomOf m) t ≡ (k, p) ∷ fs)
+-- a refusal leaves every word 0
+pub refused-words : (s : List ℕ) (m k p : ℕ) → readBody s m .answer ≡ refused k p → readBody s m ≡ answers (refused k p) (replicate m 0)
+refused-words s m k p = by (headerAt s)
+  where
+    settles : (w : List ℕ) (x : Outcome (ℕ × ℕ)) → settled m w x .answer ≡ refused k p
+        → settled m w x ≡ answers (refused k p) (replicate m 0)
+    settles w (refused j q) e = ap (λ (z : Outcome (ℕ × ℕ)). answers z (replicate m 0)) e
+    settles w (answered v) e = absurd (value-not v k p e)
 
-pub fault-first : (s : List ℕ) (m k p : ℕ) → readText s m .answer ≡ refused k p → k ≢ 10 → k ≢ 11 → FirstFault s m k p
-fault-first s m k p h n₁₀ n₁₁ =
-    let b : readBody s m .answer ≡ refused k p = refused-short s m k p h n₁₀ in
-    let e : viableTo k p ≡ p + 1 = ap (λ (z : Bool). cond z p (p + 1)) (ne-eqb k 11 n₁₁) in
-    let l : p < length s = omega (arith, place-inside s m k p b) in
-    record {
-      inside = l;
-      viable = subst (λ (z : ℕ). Viable (take z s)) e (said s m k p b);
-      first = λ t rest gr i. tree-refused t m k p gr (goes-on s m k p b t rest l i);
-    }
+    by : (x : InRange) → bodyOf s m x .answer ≡ refused k p → bodyOf s m x ≡ answers (refused k p) (replicate m 0)
+    by (Unfit f q) e = ap (λ (z : Outcome (ℕ × ℕ)). answers z (replicate m 0)) e
+    by (Inside N q) e =
+        let r : ReadOut = linesAt maxLines s N (roomOf m) (replicate maxLines 0) 0 q 0 (replicate m 0) in settles (r .words) (r .answer) e

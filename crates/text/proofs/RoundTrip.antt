@@ -1,282 +1,76 @@
--- Every well-formed table, written and read again, is that table.
-use Prim.Native.Nat.{ℕ, zero, suc, _+_, _-_, _*_, _/_, _%_, _<_, _≤_}
-use mathlib.Core.Path.{_≡_, refl, sym, ap, subst, _∙_}
-use mathlib.Core.Bool.{Bool, true, false, not, cond}
-use mathlib.Core.Logic.{⊎-elim, _≢_}
-use mathlib.Core.List.{List, [], _∷_, _++_, map, cons≢nil}
-use native.Mathlib.Nat.{not-suc-le-zero, add-zero, zero-add}
+-- A table that is written, read again, is that table; and every well-formed table is written where the sink is long enough.
+use Prim.Native.Nat.{ℕ, zero, suc, _+_, _-_, _*_, _/_, _<_, _≤_}
+use mathlib.Core.Path.{_≡_, refl, sym, ap, _∙_}
+use mathlib.Core.Bool.{true, false, not}
+use mathlib.Core.Logic.{_≢_}
+use mathlib.Core.List.{List, [], _∷_, _++_, cons≢nil, List·Memᴰ·head}
+use native.Mathlib.Nat.{not-suc-le-zero, zero-add}
 use native.Mathlib.Omega.{arith}
 use native.Mathlib.Decide.{decLt}
-use lib.Dec.{T, T-not, not-T, eqb, ltb, eqb→eq, ltb→lt, leb→le}
-use lib.ListN.{length, getD, take, drop, length-append, length-drop, replicate, List·getD-append}
-use lib.Seq.{getD-at, drop-drop, take-add, getD-drop}
+use lib.Dec.{T, ltb, leb→le}
+use lib.ListN.{length, take, drop, length-append, replicate}
+use lib.Seq.{take-at}
 use borrow.Author.Tests.{lt-ltb, le-ltb}
-use Rattle.masks.specs.Numbers.{some, below}
-use Rattle.masks.proofs.Numbers.{some-i}
-use Rattle.masks.proofs.Tests.{and-l, and-r, not-not, below-suc}
-use Rattle.circuits.specs.Check.{wellFormed, inRange, malformed, wellFormedTable}
-use Rattle.circuits.specs.Node.{kind, node, word, nodeAt}
-use Rattle.circuits.specs.Outcome.{answered}
-use Rattle.text.specs.Faults.{nodesIn}
+use Rattle.masks.proofs.Tests.{and-l, and-r, not-not}
+use Rattle.table.specs.Node.{kind, word, nodeAt, nodeWords}
+use Rattle.table.specs.Outcome.{answered, Outcome, refused}
+use Rattle.table.specs.Words.{wellFormed, inRange, malformed, checkWords}
+use Rattle.table.proofs.Checking.{accepted-by}
 use Rattle.text.specs.Read.{answers, roomOf, readText}
-use Rattle.text.specs.Syntax.{digitText, decimal, printForm, printLines, print, Below, Own, GrammaticalLines, compileForm}
-use Rattle.text.specs.Syntax.{compileLines, compile, depth, LinesWithin, Tree, Compiled, Form, constantForm, literalForm}
-use Rattle.text.specs.Syntax.{decisionForm, conjunctionForm, lineForm}
-use Rattle.text.specs.Write.{nodeForm, tableText}
-use Rattle.text.proofs.Clean.{linesNodes, lines-compiled}
+use Rattle.text.specs.Syntax.{printLines, print, compileLines, compile, Tree, Form}
+use Rattle.text.specs.Write.{writeText, tableText, writeChecked, writeTable, WriteOut}
+use Rattle.text.proofs.Clean.{lines-compiled}
 use Rattle.text.proofs.Meaning.{read-complete}
-use Rattle.text.proofs.Spelling.{constant-length, literal-length, line-length, decision-length, conjunction-length}
+use Rattle.text.proofs.Readers.{value-not}
+use Rattle.text.proofs.WrittenLines.{formsFrom, all-forms, decimal-most, node-line, NodeIs, lines-fine, lines-compile}
+use Rattle.text.proofs.WrittenLines.{words-take}
 
--- the forms of k nodes from node i on
-abbrev formsFrom : List ℕ → ℕ → ℕ → List Form
-formsFrom w i zero = []
-formsFrom w i (suc k) = nodeForm (nodeAt w i) ∷ formsFrom w (suc i) k
+-- ---- what is written of a well-formed table
+abbrev written : ℕ → ℕ → List ℕ → Tree
+written N n w = record { variables = N; lines = formsFrom w 0 n }
 
-forms-snoc : (w : List ℕ) (i k : ℕ) → formsFrom w i k ++ (nodeForm (nodeAt w (i + k)) ∷ []) ≡ formsFrom w i (suc k)
-forms-snoc w i zero = ap (λ (z : ℕ). nodeForm (nodeAt w z) ∷ []) (add-zero i)
-forms-snoc w i (suc k) =
-    let e : i + suc k ≡ suc i + k = omega arith in
-    ap (λ (z : ℕ). nodeForm (nodeAt w i) ∷ (formsFrom w (suc i) k ++ (nodeForm (nodeAt w z) ∷ []))) e
-    ∙ ap (λ (z : List Form). nodeForm (nodeAt w i) ∷ z) (forms-snoc w (suc i) k)
-
-map-snoc : {A B : Type 0} (f : A → B) (xs : List A) (x : A) → map f (xs ++ (x ∷ [])) ≡ map f xs ++ (f x ∷ [])
-map-snoc f [] x = refl
-map-snoc f (y ∷ xs) x = ap (λ z. f y ∷ z) (map-snoc f xs x)
-
-all-forms : (w : List ℕ) (n : ℕ) → map (λ i. nodeForm (nodeAt w i)) (below n) ≡ formsFrom w 0 n
-unfolding below
-all-forms w zero = refl
-all-forms w (suc n) =
-    map-snoc (λ i. nodeForm (nodeAt w i)) (below n) n ∙ ap (λ (z : List Form). z ++ (nodeForm (nodeAt w n) ∷ [])) (all-forms w n)
-    ∙ ap (λ (z : ℕ). formsFrom w 0 n ++ (nodeForm (nodeAt w z) ∷ [])) (sym (zero-add n)) ∙ forms-snoc w 0 n
-
--- ---- one node
--- what a line of the writer is: within the limits, one node, and that node's words
-pub record NodeLine (N i c x a b : ℕ) (f : Form) : Type 0 where
-  pub own : Own f
-  pub below : Below N i f
-  pub shallow : depth f ≤ 2
-  pub one : nodesIn f ≡ 1
-  pub length-most : length (printForm f) ≤ 36
-  pub compiled : (e : List ℕ) → ((j : ℕ) → j < i → getD e j 0 ≡ j)
-      → compileForm e i f ≡ record { words = c ∷ x ∷ a ∷ b ∷ []; nodes = suc i; node = i }
-
-digit-most : (unit v : ℕ) → length (digitText unit v) ≤ 1
-digit-most unit v = by (ltb v unit)
-  where
-    by : (b : Bool) → length (cond b [] ((48 + v / unit % 10) ∷ [])) ≤ 1
-    by true = omega arith
-    by false = omega arith
-
-pub decimal-most : (v : ℕ) → length (decimal v) ≤ 4
-unfolding decimal
-decimal-most v = simp length-append (omega (arith, digit-most 1000 v, digit-most 100 v, digit-most 10 v))
-
-compiled-as : (c x a b x′ a′ b′ i : ℕ) → x ≡ x′ → a ≡ a′ → b ≡ b′
-    → _≡_ {A = Compiled} (record { words = c ∷ x ∷ a ∷ b ∷ []; nodes = suc i; node = i })
-    (record { words = c ∷ x′ ∷ a′ ∷ b′ ∷ []; nodes = suc i; node = i })
-compiled-as c x a b x′ a′ b′ i e f g = λ t. record { words = c ∷ e t ∷ f t ∷ g t ∷ []; nodes = suc i; node = i }
-
-zero-of : (v : ℕ) → T (eqb v 0) → 0 ≡ v
-zero-of v t = sym (eqb→eq v 0 t)
-
-constant-line : (N i : ℕ) (v : Bool) (x a b : ℕ) → 0 ≡ x → 0 ≡ a → 0 ≡ b → NodeLine N i (cond v 1 0) x a b (constantForm v)
-unfolding compileForm
-constant-line N i v x a b ex ea eb =
-    record {
-      own = tt;
-      below = tt;
-      shallow = omega arith;
-      one = refl;
-      length-most = most v;
-      compiled = λ e h. made v e ∙ compiled-as (cond v 1 0) 0 0 0 x a b i ex ea eb;
-    }
-  where
-    most : (v : Bool) → length (printForm (constantForm v)) ≤ 36
-    most true = omega (arith, constant-length true)
-    most false = omega (arith, constant-length false)
-
-    made : (v : Bool) (e : List ℕ)
-        → compileForm e i (constantForm v) ≡ record { words = cond v 1 0 ∷ 0 ∷ 0 ∷ 0 ∷ []; nodes = suc i; node = i }
-    made true e = refl
-    made false e = refl
-
-literal-line : (N i : ℕ) (v : Bool) (x a b : ℕ) → x < N → 0 ≡ a → 0 ≡ b → NodeLine N i (cond v 2 3) x a b (literalForm v x)
-unfolding compileForm
-literal-line N i v x a b l ea eb =
-    record {
-      own = tt;
-      below = l;
-      shallow = omega arith;
-      one = refl;
-      length-most = most v;
-      compiled = λ e h. made v e ∙ compiled-as (cond v 2 3) x 0 0 x a b i refl ea eb;
-    }
-  where
-    most : (v : Bool) → length (printForm (literalForm v x)) ≤ 36
-    most true = omega (arith, literal-length true x, decimal-most x)
-    most false = omega (arith, literal-length false x, decimal-most x)
-
-    made : (v : Bool) (e : List ℕ)
-        → compileForm e i (literalForm v x) ≡ record { words = cond v 2 3 ∷ x ∷ 0 ∷ 0 ∷ []; nodes = suc i; node = i }
-    made true e = refl
-    made false e = refl
-
-decision-line : (N i x a b : ℕ) → x < N → a < i → b < i → NodeLine N i 4 x a b (decisionForm x (lineForm a) (lineForm b))
-unfolding compileForm
-decision-line N i x a b l la lb =
-    record {
-      own = tt;
-      below = (l, la, lb);
-      shallow = omega arith;
-      one = refl;
-      length-most =
-          omega (
-            arith,
-            decision-length x (lineForm a) (lineForm b),
-            line-length a,
-            line-length b,
-            decimal-most x,
-            decimal-most a,
-            decimal-most b,
-          );
-      compiled = λ e h. compiled-as 4 x (getD e a 0) (getD e b 0) x a b i refl (h a la) (h b lb);
-    }
-
-conjunction-line : (N i x a b : ℕ) → 0 ≡ x → a < i → b < i → NodeLine N i 5 x a b (conjunctionForm (lineForm a) (lineForm b))
-unfolding compileForm
-conjunction-line N i x a b ex la lb =
-    record {
-      own = tt;
-      below = (la, lb);
-      shallow = omega arith;
-      one = refl;
-      length-most =
-          omega (arith, conjunction-length (lineForm a) (lineForm b), line-length a, line-length b, decimal-most a, decimal-most b);
-      compiled = λ e h. compiled-as 5 0 (getD e a 0) (getD e b 0) x a b i ex (h a la) (h b lb);
-    }
-
--- the line of a well-formed node
-node-line : (N i c x a b : ℕ) → T (wellFormed N i (kind c) x a b) → NodeLine N i c x a b (nodeForm (node (kind c) x a b))
-node-line N i zero x a b h =
-    constant-line N i false x a b (zero-of x (search (and-l, and-r))) (zero-of a (search (and-l, and-r)))
-    (zero-of b (search (and-l, and-r)))
-node-line N i (suc zero) x a b h =
-    constant-line N i true x a b (zero-of x (search (and-l, and-r))) (zero-of a (search (and-l, and-r))) (zero-of b (search (and-l, and-r)))
-node-line N i (suc (suc zero)) x a b h =
-    literal-line N i true x a b (ltb→lt x N (search (and-l, and-r))) (zero-of a (search (and-l, and-r))) (zero-of b (search (and-l, and-r)))
-node-line N i (suc (suc (suc zero))) x a b h =
-    literal-line N i false x a b (ltb→lt x N (search (and-l, and-r))) (zero-of a (search (and-l, and-r)))
-    (zero-of b (search (and-l, and-r)))
-node-line N i (suc (suc (suc (suc zero)))) x a b h =
-    decision-line N i x a b (ltb→lt x N (search (and-l, and-r))) (ltb→lt a i (search (and-l, and-r))) (ltb→lt b i (search (and-l, and-r)))
-node-line N i (suc (suc (suc (suc (suc zero))))) x a b h =
-    conjunction-line N i x a b (zero-of x (search (and-l, and-r))) (ltb→lt a i (search (and-l, and-r))) (ltb→lt b i (search (and-l, and-r)))
-node-line N i (suc (suc (suc (suc (suc (suc c)))))) x a b h = absurd h
-
--- ---- all nodes
--- the words of k nodes from node i on
-abbrev wordsFrom : List ℕ → ℕ → ℕ → List ℕ
-wordsFrom w i zero = []
-wordsFrom w i (suc k) = word w i 0 ∷ word w i 1 ∷ word w i 2 ∷ word w i 3 ∷ wordsFrom w (suc i) k
-
-abbrev NodeIs : ℕ → List ℕ → ℕ → Type 0
-NodeIs N w i = NodeLine N i (word w i 0) (word w i 1) (word w i 2) (word w i 3) (nodeForm (nodeAt w i))
-
-module _ (N : ℕ) (w : List ℕ) where
-  wider : (N′ k′ k : ℕ) (f : Form) → N ≤ N′ → k ≤ k′ → Below N k f → Below N′ k′ f
-  wider N′ k′ k (constantForm v) l m b = tt
-  wider N′ k′ k (literalForm v x) l m b = omega arith
-  wider N′ k′ k (decisionForm x f g) l m (bx, bf, bg) = (omega arith, wider N′ k′ k f l m bf, wider N′ k′ k g l m bg)
-  wider N′ k′ k (conjunctionForm f g) l m (bf, bg) = (wider N′ k′ k f l m bf, wider N′ k′ k g l m bg)
-  wider N′ k′ k (lineForm j) l m b = omega arith
-
-  lines-fine : (k i : ℕ) → N ≤ 40 → i + k ≤ 1024 → ((j : ℕ) → j < i + k → NodeIs N w j)
-      → GrammaticalLines (formsFrom w i k) × LinesWithin N i (formsFrom w i k) × (linesNodes (formsFrom w i k) ≡ k)
-      × (length (printLines (formsFrom w i k)) ≤ 37 * k)
-  unfolding printLines
-  lines-fine zero i ln lk h = (tt, tt, refl, omega arith)
-  lines-fine (suc k) i ln lk h =
-      let o = h i (omega arith) in
-      let f : Form = nodeForm (nodeAt w i) in
-      let (a, b, c, d) = lines-fine k (suc i) ln (omega arith) (λ j l. h j (omega arith)) in (
-        (o .own, wider 10000 10000 i f (omega arith) (omega arith) (o .below), a),
-        (o .below, omega (arith, o .shallow), b),
-        omega (arith, o .one, c),
-        omega (
-          arith,
-          length-append (printForm f ++ (10 ∷ [])) (printLines (formsFrom w (suc i) k)),
-          length-append (printForm f) (10 ∷ []),
-          o .length-most,
-          d,
-        ),
-      )
-
-  lines-compile : (k i : ℕ) (e : List ℕ) → length e ≡ i → ((j : ℕ) → j < i → getD e j 0 ≡ j) → ((j : ℕ) → j < i + k → NodeIs N w j)
-      → (compileLines e i (formsFrom w i k) .words ≡ wordsFrom w i k)
-  unfolding compileLines
-  lines-compile zero i e le h nodes = refl
-  lines-compile (suc k) i e le h nodes =
-      let f : Form = nodeForm (nodeAt w i) in
-      let c : compileForm e i f ≡ record { words = word w i 0 ∷ word w i 1 ∷ word w i 2 ∷ word w i 3 ∷ []; nodes = suc i; node = i } =
-      nodes i (omega arith) .compiled e h in
-      ap (λ (z : Compiled). z .words ++ compileLines (e ++ (z .node ∷ [])) (z .nodes) (formsFrom w (suc i) k) .words) c
-      ∙ ap (λ (z : List ℕ). word w i 0 ∷ word w i 1 ∷ word w i 2 ∷ word w i 3 ∷ z)
-      (lines-compile k (suc i) (e ++ (i ∷ [])) (length-append e (i ∷ []) ∙ omega arith) same (λ j l. nodes j (omega arith)))
-    where
-      same : (j : ℕ) → j < suc i → getD (e ++ (i ∷ [])) j 0 ≡ j
-      same j l =
-          ⊎-elim
-          (λ (d : j ≡ i). subst (λ (z : ℕ). getD (e ++ (i ∷ [])) z 0 ≡ z) (sym d) (getD-at e i [] 0 i le))
-          (λ (d : j < i). List·getD-append e (i ∷ []) 0 j (subst (λ (z : ℕ). j < z) (sym le) d) ∙ h j d)
-          (below-suc l)
-
-  first-four : (l : List ℕ) → 4 ≤ length l → take 4 l ≡ getD l 0 0 ∷ getD l 1 0 ∷ getD l 2 0 ∷ getD l 3 0 ∷ []
-  first-four [] h = absurd (omega arith)
-  first-four (a ∷ []) h = absurd (omega arith)
-  first-four (a ∷ b ∷ []) h = absurd (omega arith)
-  first-four (a ∷ b ∷ c ∷ []) h = absurd (omega arith)
-  first-four (a ∷ b ∷ c ∷ d ∷ l) h = refl
-
-  words-take : (k i : ℕ) → 4 * (i + k) ≤ length w → wordsFrom w i k ≡ take (4 * k) (drop (4 * i) w)
-  words-take zero i h = refl
-  words-take (suc k) i h =
-      let l : List ℕ = drop (4 * i) w in
-      let e : 4 * suc k ≡ 4 + 4 * k = omega arith in
-      let n : 4 * suc i ≡ 4 * i + 4 = omega arith in
-      let own : word w i 0 ∷ word w i 1 ∷ word w i 2 ∷ word w i 3 ∷ [] ≡ take 4 l =
-      sym (first-four l (omega (arith, length-drop (4 * i) w))
-      ∙ λ t. getD-drop (4 * i) w 0 0 t ∷ getD-drop (4 * i) w 1 0 t ∷ getD-drop (4 * i) w 2 0 t ∷ getD-drop (4 * i) w 3 0 t ∷ []) in
-      ap (λ (z : List ℕ). (word w i 0 ∷ word w i 1 ∷ word w i 2 ∷ word w i 3 ∷ []) ++ z)
-      (words-take k (suc i) (omega arith) ∙ ap (λ (z : ℕ). take (4 * k) (drop z w)) n ∙ ap (take (4 * k)) (sym (drop-drop 4 (4 * i) w)))
-      ∙ ap (λ (z : List ℕ). z ++ take (4 * k) (drop 4 l)) own ∙ sym (take-add 4 (4 * k) l) ∙ ap (λ (z : ℕ). take z l) (sym e)
-
--- ---- the theorem
-module _ (N n : ℕ) (w : List ℕ) (h : T (wellFormedTable N n w)) where
-  range : T (inRange N n w)
-  unfolding wellFormedTable
-  range = and-l (inRange N n w) (not (some n (malformed N w))) h
+module _ (N n : ℕ) (w : List ℕ) (h : checkWords N n w ≡ answered tt) where
+  well : T (inRange N n w) × ((i : ℕ) → i < n → T (not (malformed N w i)))
+  unfolding checkWords
+  well =
+      let (range, none) = accepted-by N n w ((22, malformed N w) ∷ []) h in
+      (range, none (22, malformed N w) (List·Memᴰ·head refl))
 
   nodes : (i : ℕ) → i < n → NodeIs N w i
-  unfolding wellFormedTable malformed nodeAt
+  unfolding malformed nodeAt
   nodes i l =
       node-line N i (word w i 0) (word w i 1) (word w i 2) (word w i 3)
-      (not-not (wellFormed N i (kind (word w i 0)) (word w i 1) (word w i 2) (word w i 3))
-      (not-T (malformed N w i)
-      (λ p. T-not (some n (malformed N w)) (and-r (inRange N n w) (not (some n (malformed N w))) h) (some-i n (malformed N w) i l p))))
+      (not-not (wellFormed N i (kind (word w i 0)) (word w i 1) (word w i 2) (word w i 3)) (well .1 i l))
 
-  pub round-trip : (m : ℕ) → 4 * n ≤ m
-      → readText (tableText N n w) m ≡ answers (answered (N, n)) (take (4 * n) w ++ replicate (m - 4 * n) 0)
-  unfolding tableText print compile
+  prints : print (written N n w) ≡ tableText N n w
+  unfolding tableText
+  prints = ap (λ (y : List Form). print (record { variables = N; lines = y })) (sym (all-forms w n))
+
+  -- its text has at most 40,000 bytes
+  pub table-text-short : length (tableText N n w) ≤ 40000
+  unfolding print
+  table-text-short =
+      let r : T (inRange N n w) = well .0 in
+      let l₂ : N ≤ 40 = leb→le N 40 (search (and-l, and-r)) in
+      let l₄ : n ≤ 1024 = leb→le n 1024 (search (and-l, and-r)) in
+      let (gr, within, count, long) = lines-fine N w n 0 l₂ (omega arith) (λ j l. nodes j (omega arith)) in
+      omega (arith, header-length, long, ap length prints)
+    where
+      header-length : length (print (written N n w)) ≤ 15 + length (printLines (formsFrom w 0 n))
+      header-length = simp length-append (omega (arith, decimal-most N))
+
+  -- read again with words enough, the text is that table
+  round-trip : (m : ℕ) → nodeWords * n ≤ m
+      → readText (tableText N n w) m ≡ answers (answered (N, n)) (take (nodeWords * n) w ++ replicate (m - nodeWords * n) 0)
+  unfolding compile
   round-trip m lm =
-      let r : T (inRange N n w) = range in
+      let r : T (inRange N n w) = well .0 in
       let l₁ : 1 ≤ N = leb→le 1 N (search (and-l, and-r)) in
       let l₂ : N ≤ 40 = leb→le N 40 (search (and-l, and-r)) in
       let l₃ : 1 ≤ n = leb→le 1 n (search (and-l, and-r)) in
       let l₄ : n ≤ 1024 = leb→le n 1024 (search (and-l, and-r)) in
       let l₅ : 4 * n ≤ length w = leb→le (4 * n) (length w) (search (and-l, and-r)) in
       let fs : List Form = formsFrom w 0 n in
-      let t : Tree = record { variables = N; lines = fs } in
       let z : 0 + n ≡ n = zero-add n in
       let (gr, within, count, long) = lines-fine N w n 0 l₂ (omega arith) (λ j l. nodes j (omega arith)) in
       let (i, j) = lines-compiled [] 0 fs in
@@ -285,17 +79,17 @@ module _ (N n : ℕ) (w : List ℕ) (h : T (wellFormedTable N n w)) where
       let room : n ≤ roomOf m = fits m lm l₄ in
       read-complete (tableText N n w) m N n (take (4 * n) w ++ replicate (m - 4 * n) 0)
       (record {
-        tree = t;
+        tree = written N n w;
         grammatical = record { header = omega arith; some = some-form n l₃; each = gr };
         within =
             record {
-              bytes = omega (arith, header-length, long);
+              bytes = omega (arith, table-text-short, ap length prints);
               low = l₁;
               high = l₂;
               each = within;
-              capacity = omega arith;
+              nodes = omega arith;
             };
-        prints = ap (λ (y : List Form). print (record { variables = N; lines = y })) (sym (all-forms w n));
+        prints = prints;
         variables = refl;
         nodes = omega arith;
         table = ap (λ (y : List ℕ). y ++ replicate (m - 4 * n) 0) c;
@@ -312,5 +106,43 @@ module _ (N n : ℕ) (w : List ℕ) (h : T (wellFormedTable N n w)) where
       some-form zero l e = absurd (omega arith)
       some-form (suc k) l e = cons≢nil e
 
-      header-length : length (print (record { variables = N; lines = formsFrom w 0 n })) ≤ 15 + length (printLines (formsFrom w 0 n))
-      header-length = simp length-append (omega (arith, decimal-most N))
+-- ---- the theorems
+-- a well-formed table is written into a sink that is long enough
+pub writes : (N n : ℕ) (w sink : List ℕ) → checkWords N n w ≡ answered tt → length (tableText N n w) ≤ length sink
+    → writeTable N n w sink .answer ≡ answered (length (tableText N n w))
+unfolding writeTable
+writes N n w sink h l =
+    let text : List ℕ = tableText N n w in
+    let fits : ltb (length sink) (length text) ≡ false = le-ltb (length sink) (length text) l in
+    ap (λ (z : Outcome (Unit {0})). writeChecked text sink z .answer) h ∙ rw fits
+
+-- where a table is written, what stands in the sink is read as that table, and the other words are 0
+pub written-read : (N n : ℕ) (w sink : List ℕ) (k m : ℕ) → writeTable N n w sink .answer ≡ answered k → nodeWords * n ≤ m
+    → readText (take k (writeTable N n w sink .sink)) m
+    ≡ answers (answered (N, n)) (take (nodeWords * n) w ++ replicate (m - nodeWords * n) 0)
+unfolding writeTable
+written-read N n w sink k m h l = checked (checkWords N n w) refl h
+  where
+    text : List ℕ
+    text = tableText N n w
+
+    -- what is to be shown of what is written
+    Again : WriteOut → Type 0
+    Again o =
+        readText (take k (o .sink)) m ≡ answers (answered (N, n)) (take (nodeWords * n) w ++ replicate (m - nodeWords * n) 0)
+
+    sunk : checkWords N n w ≡ answered tt → Dec (length sink < length text) → writeText text sink .answer ≡ answered k
+        → Again (writeText text sink)
+    sunk c (yes d) e =
+        let z : ltb (length sink) (length text) ≡ true = lt-ltb (length sink) (length text) d in
+        absurd (value-not k 16 (length text) (sym (rw z at e)))
+    sunk c (no d) e =
+        let z : ltb (length sink) (length text) ≡ false = le-ltb (length sink) (length text) (omega arith) in
+        let f : answered (length text) ≡ answered k = rw z at e in
+        let i : length text ≡ k = cc in
+        rw z (ap (λ (z : List ℕ). readText z m) (take-at text (drop (length text) sink) k i) ∙ round-trip N n w c m l)
+
+    checked : (o : Outcome (Unit {0})) → checkWords N n w ≡ o → writeChecked text sink o .answer ≡ answered k
+        → Again (writeChecked text sink o)
+    checked (answered u) c e = sunk c (decLt (length sink) (length text)) e
+    checked (refused j i) c e = absurd (value-not k j i (sym e))

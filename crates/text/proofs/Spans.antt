@@ -13,6 +13,7 @@ use lib.Seq.{take-suc}
 use borrow.Author.Tests.{eq-eqb, ne-eqb, lt-ltb, le-ltb, le-leb, lt-leb}
 use Rattle.masks.proofs.Tests.{same?}
 use Rattle.text.specs.Answers.{faultNumber}
+use Rattle.text.specs.Meaning.{Bytes}
 use Rattle.text.specs.Read.{byteAt, digitAt, digitsAt, numberAt, matchAt, rangedOf, rangedAt}
 use Rattle.text.specs.declared.answer.Fault.{Fault}
 use Rattle.text.specs.declared.answer.Fault.the-variants.{Shape}
@@ -31,11 +32,6 @@ viableTo k p = cond (eqb k 11) p (p + 1)
 
 abbrev pub viableAt : Fault → ℕ → ℕ
 viableAt f p = viableTo (faultNumber f) p
-
--- every byte is one
-abbrev pub Bytes : List ℕ → Type 0
-Bytes [] = Unit {0}
-Bytes (b ∷ w) = (b < 256) × Bytes w
 
 -- where no byte is read, the text has ended
 pub past-end : (l : List ℕ) (i : ℕ) → Bytes l → getD l i 256 ≡ 256 → length l ≤ i

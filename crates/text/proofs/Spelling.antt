@@ -1,26 +1,28 @@
--- A printed form, spelled out before what follows it; its length, its kind and its first byte.
-use Prim.Native.Nat.{ℕ, _+_, _<_}
+-- A printed form, spelled out before what follows it; its length, where it may stand, and its first byte.
+use Prim.Native.Nat.{ℕ, _+_}
 use mathlib.Core.Path.{_≡_, refl}
 use mathlib.Core.Bool.{Bool, true, false, cond}
 use mathlib.Core.List.{List, _∷_, _++_, append-assoc}
 use native.Mathlib.Omega.{arith}
 use lib.ListN.{length, length-append}
-use Rattle.text.specs.Read.{ownKinds, allKinds, wordOf}
-use Rattle.text.specs.Syntax.{decimal, printForm, Own, Form, constantForm, literalForm, decisionForm, conjunctionForm}
-use Rattle.text.specs.Syntax.{lineForm}
+use Rattle.text.specs.Syntax.{decimal, printForm, Own, Form, constantForm, literalForm, decisionForm, conjunctionForm, lineForm}
+use Rattle.text.specs.Words.{spelling}
+use Rattle.text.specs.declared.head.Role.{Role}
+use Rattle.text.specs.declared.head.Role.the-variants.{OwnForm, Argument}
+use Rattle.text.specs.declared.head.Word.the-variants.{False, True, Yes, No, Pick, Both, Line}
 
-pub constant-flat : (v : Bool) (r : List ℕ) → printForm (constantForm v) ++ r ≡ 40 ∷ cond v 116 102 ∷ (wordOf (cond v 1 0) ++ (41 ∷ r))
+pub constant-flat : (v : Bool) (r : List ℕ) → printForm (constantForm v) ++ r ≡ 40 ∷ (spelling (cond v True False) ++ (41 ∷ r))
 unfolding printForm
 constant-flat true r = refl
 constant-flat false r = refl
 
 pub literal-flat : (v : Bool) (x : ℕ) (r : List ℕ)
-    → printForm (literalForm v x) ++ r ≡ 40 ∷ cond v 121 110 ∷ (wordOf (cond v 2 3) ++ (decimal x ++ (41 ∷ r)))
+    → printForm (literalForm v x) ++ r ≡ 40 ∷ (spelling (cond v Yes No) ++ (decimal x ++ (41 ∷ r)))
 unfolding printForm
 literal-flat true x r = simp append-assoc
 literal-flat false x r = simp append-assoc
 
-pub line-flat : (k : ℕ) (r : List ℕ) → printForm (lineForm k) ++ r ≡ 40 ∷ 108 ∷ (wordOf 6 ++ (decimal k ++ (41 ∷ r)))
+pub line-flat : (k : ℕ) (r : List ℕ) → printForm (lineForm k) ++ r ≡ 40 ∷ (spelling Line ++ (decimal k ++ (41 ∷ r)))
 unfolding printForm
 line-flat k r = simp append-assoc
 
@@ -29,20 +31,20 @@ abbrev pub argsText : Form → Form → List ℕ → List ℕ
 argsText f g r = 32 ∷ (printForm f ++ (32 ∷ (printForm g ++ (41 ∷ r))))
 
 pub decision-flat : (x : ℕ) (f g : Form) (r : List ℕ)
-    → printForm (decisionForm x f g) ++ r ≡ 40 ∷ 112 ∷ (wordOf 4 ++ (decimal x ++ argsText f g r))
+    → printForm (decisionForm x f g) ++ r ≡ 40 ∷ (spelling Pick ++ (decimal x ++ argsText f g r))
 unfolding printForm
 decision-flat x f g r = simp append-assoc
 
-pub conjunction-flat : (f g : Form) (r : List ℕ) → printForm (conjunctionForm f g) ++ r ≡ 40 ∷ 98 ∷ (wordOf 5 ++ argsText f g r)
+pub conjunction-flat : (f g : Form) (r : List ℕ) → printForm (conjunctionForm f g) ++ r ≡ 40 ∷ (spelling Both ++ argsText f g r)
 unfolding printForm
 conjunction-flat f g r = simp append-assoc
 
-pub constant-length : (v : Bool) → length (printForm (constantForm v)) ≡ 3 + length (wordOf (cond v 1 0))
+pub constant-length : (v : Bool) → length (printForm (constantForm v)) ≡ 2 + length (spelling (cond v True False))
 unfolding printForm
 constant-length true = refl
 constant-length false = refl
 
-pub literal-length : (v : Bool) (x : ℕ) → length (printForm (literalForm v x)) ≡ 3 + length (wordOf (cond v 2 3)) + length (decimal x)
+pub literal-length : (v : Bool) (x : ℕ) → length (printForm (literalForm v x)) ≡ 2 + length (spelling (cond v Yes No)) + length (decimal x)
 unfolding printForm
 literal-length true x = simp length-append (omega arith)
 literal-length false x = simp length-append (omega arith)
@@ -60,31 +62,14 @@ pub conjunction-length : (f g : Form) → length (printForm (conjunctionForm f g
 unfolding printForm
 conjunction-length f g = simp length-append (omega arith)
 
--- the number of a form's kind, 6 for `line`
-abbrev pub kindNumber : Form → ℕ
-kindNumber (constantForm v) = cond v 1 0
-kindNumber (literalForm v x) = cond v 2 3
-kindNumber (decisionForm x f g) = 4
-kindNumber (conjunctionForm f g) = 5
-kindNumber (lineForm k) = 6
+-- a form may stand in a role
+abbrev pub Stands : Role → Form → Type 0
+Stands OwnForm f = Own f
+Stands Argument f = Unit {0}
 
-pub any-kind : (f : Form) → kindNumber f < allKinds
-any-kind (constantForm true) = omega arith
-any-kind (constantForm false) = omega arith
-any-kind (literalForm true x) = omega arith
-any-kind (literalForm false x) = omega arith
-any-kind (decisionForm x f g) = omega arith
-any-kind (conjunctionForm f g) = omega arith
-any-kind (lineForm k) = omega arith
-
-pub own-kind : (f : Form) → Own f → kindNumber f < ownKinds
-own-kind (constantForm true) o = omega arith
-own-kind (constantForm false) o = omega arith
-own-kind (literalForm true x) o = omega arith
-own-kind (literalForm false x) o = omega arith
-own-kind (decisionForm x f g) o = omega arith
-own-kind (conjunctionForm f g) o = omega arith
-own-kind (lineForm k) o = absurd o
+pub own-stands : (role : Role) (f : Form) → Own f → Stands role f
+own-stands OwnForm f o = o
+own-stands Argument f o = tt
 
 pub begins : (f : Form) → (x : List ℕ) × (printForm f ≡ 40 ∷ x)
 unfolding printForm

@@ -13,24 +13,26 @@ use lib.ListN.{length, getD, set, length-append, length-set, replicate, length-r
 use lib.Seq.{getD-at, sets, getD-set-same, getD-set-other}
 use borrow.Author.Tests.{eq-eqb, ne-eqb, lt-ltb, le-ltb, le-leb, lt-leb}
 use Rattle.masks.proofs.Tests.{same?}
-use Rattle.circuits.specs.Outcome.{Outcome, answered, refused}
+use Rattle.table.specs.Outcome.{Outcome, answered, refused}
 use Rattle.text.specs.Ascii.{ascii}
 use Rattle.text.specs.Faults.{unless, nodesIn, formFaults, linesFaults, treeFaults}
-use Rattle.text.specs.Read.{byteAt, ownKinds, setting, formAt, answers, lineEnd, maxLines, linesAt, headerThen, headerOf}
-use Rattle.text.specs.Read.{headerAt, roomOf, settled, bodyOf, Stepped, ReadOut}
+use Rattle.text.specs.Limits.{maxLines}
+use Rattle.text.specs.Read.{byteAt, setting, formAt, answers, lineEnd, linesAt, headerThen, headerOf, headerAt, roomOf, settled}
+use Rattle.text.specs.Read.{bodyOf, Stepped, ReadOut}
 use Rattle.text.specs.Syntax.{decimal, printForm, printLines, print, Below, Own, GrammaticalLines, makes, compileForm}
-use Rattle.text.specs.Syntax.{compileLines, compile, Tree, Grammatical, Compiled, Form, constantForm, literalForm}
-use Rattle.text.specs.Syntax.{decisionForm, conjunctionForm, lineForm}
+use Rattle.text.specs.Syntax.{compileLines, compile, Tree, Grammatical, Compiled, Form, constantForm, literalForm, decisionForm}
+use Rattle.text.specs.Syntax.{conjunctionForm, lineForm}
 use Rattle.text.specs.declared.answer.Fault.the-variants.{Shape, Range}
 use Rattle.text.specs.declared.answer.Step.{Step}
 use Rattle.text.specs.declared.answer.Step.the-variants.{Made}
 use Rattle.text.specs.declared.head.InRange.the-variants.{Inside, Unfit}
+use Rattle.text.specs.declared.head.Role.the-variants.{OwnForm}
 use Rattle.text.proofs.Clean.{form-clean}
-use Rattle.text.proofs.Pieces.{Here, byte, ended, past, next, matched, ranged}
 use Rattle.text.proofs.FirstFault.{StepRead}
 use Rattle.text.proofs.NodeWords.{sets-append, compile-nodes, compile-length}
+use Rattle.text.proofs.Pieces.{Here, byte, ended, past, next, matched, ranged}
 use Rattle.text.proofs.Printed.{form-read}
-use Rattle.text.proofs.Spelling.{own-kind, begins}
+use Rattle.text.proofs.Spelling.{begins}
 
 -- what is read: the first of the faults, or else the good result
 abbrev pub AnswerRead : List (ℕ × ℕ) → ReadOut → ReadOut → Type 0
@@ -103,10 +105,10 @@ module _ (s : List ℕ) (N room : ℕ) (small : room ≤ 1024) where
       → AnswerRead (formFaults N k room 16 at n f ++ gs) good (linesAt (suc more) s N room lines k at n w)
   unfolding linesAt
   line-read f more k at n w lines gs good r nums own h rest =
-      go (formFaults N k room 16 at n f) refl (form-read s N k room lines 16 f ownKinds at w n r nums (own-kind f own) h)
+      go (formFaults N k room 16 at n f) refl (form-read s N k room lines 16 f OwnForm at w n r nums own h)
     where
       x : Stepped
-      x = formAt 16 (setting s lines (record { variables = N; capacity = room; earlier = k })) ownKinds at w n
+      x = formAt 16 (setting s lines (record { variables = N; room = room; earlier = k })) OwnForm at w n
 
       after : List ℕ → Step → ReadOut
       after v t = lineEnd (λ p m a v. linesAt more s N room (set lines k a) (k + 1) p m v) s N v t

@@ -8,10 +8,12 @@ use lib.ListN.{take, set, replicate}
 use lib.Seq.{take-all}
 use borrow.Author.Tests.{eq-eqb, ne-eqb}
 use Rattle.masks.proofs.Tests.{same?}
-use Rattle.circuits.specs.Outcome.{Outcome, answered, refused}
+use Rattle.table.specs.Outcome.{Outcome, answered, refused}
 use Rattle.text.specs.Ascii.{ascii}
-use Rattle.text.specs.Read.{byteAt, matchAt, rangedAt, ownKinds, setting, formAt, lineEnd, maxLines, linesAt, headerThen}
-use Rattle.text.specs.Read.{headerOf, headerAt, roomOf, settled, bodyOf, Stepped, ReadOut}
+use Rattle.text.specs.Limits.{maxLines}
+use Rattle.text.specs.Meaning.{Bytes, IsText}
+use Rattle.text.specs.Read.{byteAt, matchAt, rangedAt, setting, formAt, lineEnd, linesAt, headerThen, headerOf, headerAt, roomOf}
+use Rattle.text.specs.Read.{settled, bodyOf, Stepped, ReadOut}
 use Rattle.text.specs.Syntax.{Viable}
 use Rattle.text.specs.declared.answer.Fault.the-variants.{Range}
 use Rattle.text.specs.declared.answer.Step.{Step}
@@ -21,10 +23,10 @@ use Rattle.text.specs.declared.head.InRange.the-variants.{Inside, Unfit}
 use Rattle.text.specs.declared.head.Limits.{Limits}
 use Rattle.text.specs.declared.head.Matched.{Matched}
 use Rattle.text.specs.declared.head.Matched.the-variants.{Past, Differs}
-use Rattle.text.proofs.Grammar.{IsLines, IsText, one-digit, last-line, next-line, whole-text}
+use Rattle.text.specs.declared.head.Role.the-variants.{OwnForm}
+use Rattle.text.proofs.Grammar.{IsLines, one-digit, last-line, next-line, whole-text}
 use Rattle.text.proofs.NodeCount.{Grown, own-grown}
-use Rattle.text.proofs.Spans.{viableTo, viableAt, Bytes, one-byte, MatchSaid, match-said, RangedSaid, ranged-said}
-use Rattle.text.proofs.Spans.{past-end}
+use Rattle.text.proofs.Spans.{viableTo, viableAt, one-byte, MatchSaid, match-said, RangedSaid, ranged-said, past-end}
 use Rattle.text.proofs.Texts.{room-most, readBody}
 use Rattle.text.proofs.ViableForms.{FormSaid, form-said}
 use Rattle.text.proofs.ViableHeads.{trueText, true-text}
@@ -43,7 +45,7 @@ module _ (s : List ℕ) where
 
   end-by : (N at : ℕ) (X : ℕ → ℕ → ℕ → List ℕ → ReadOut) → Open at → (n room : ℕ)
       → ((p m a : ℕ) (v : List ℕ) → Open p → n < m → m ≤ room → Said (X p m a v .answer))
-      → (w : List ℕ) (x : Step) → FormSaid s ownKinds at x → Grown n room x → Said (lineEnd X s N w x .answer)
+      → (w : List ℕ) (x : Step) → FormSaid s OwnForm at x → Grown n room x → Said (lineEnd X s N w x .answer)
   end-by N at X o n room rec w (Stop e p) (x, t, fx, sx) k =
       viable (viableAt e p) (take at s ++ x) (t ++ (10 ∷ [])) sx
       (subst IsText (ap (λ (z : List ℕ). take at s ++ z) (append-assoc x t (10 ∷ [])) ∙ sym (append-assoc (take at s) x (t ++ (10 ∷ []))))
@@ -77,18 +79,18 @@ module _ (s : List ℕ) where
   unfolding linesAt
   lines-said zero N room lines k at n w lr lm lk ln o = absurd (omega arith)
   lines-said (suc more) N room lines k at n w lr lm lk ln o =
-      let g : Limits = record { variables = N; capacity = room; earlier = k } in
-      let x : Stepped = formAt 16 (setting s lines g) ownKinds at w n in
+      let g : Limits = record { variables = N; room = room; earlier = k } in
+      let x : Stepped = formAt 16 (setting s lines g) OwnForm at w n in
       end-by N at (λ p m a v. linesAt more s N room (set lines k a) (k + 1) p m v) o n room
       (λ p m a v q l₁ l₂. lines-said more N room (set lines k a) (k + 1) p m v lr (omega arith) (omega arith) l₂ q)
-      (x .words) (x .step) (form-said s lines g 16 ownKinds at w n (omega arith) (omega arith)) (own-grown s lines g 15 at w n)
+      (x .words) (x .step) (form-said s lines g 16 OwnForm at w n) (own-grown s lines g 15 at w n)
 
   -- one line to go on with
   abbrev oneLine : List ℕ
   oneLine = ascii "(true)\n"
 
   one-line : IsLines oneLine
-  one-line = last-line trueText (true-text ownKinds (omega arith))
+  one-line = last-line trueText (true-text OwnForm)
 
   abbrev HeaderSaid : InRange → Type 0
   HeaderSaid (Unfit f p) = Viable (take (viableAt f p) s)

@@ -1,12 +1,12 @@
--- The answers of the operations on text, by the papers' numbers.
+-- The answers of the operations on text, by the scope's numbers.
 use Prim.Native.Nat.{ℕ}
-use Rattle.circuits.specs.Outcome.{Outcome, answered, refused}
-use Rattle.text.specs.declared.answer.AssignmentReading.the-variants.{Assignment, Variables, Misshapen, Misplaced}
+use Rattle.table.specs.Outcome.{Outcome, answered, refused}
 use Rattle.text.specs.declared.answer.AssignmentReading.{AssignmentReading}
-use Rattle.text.specs.declared.answer.Fault.the-variants.{Length, Shape, Range, Reference, Depth, Capacity}
+use Rattle.text.specs.declared.answer.AssignmentReading.the-variants.{Assignment, Sizes, LineShape, LineOrder}
 use Rattle.text.specs.declared.answer.Fault.{Fault}
-use Rattle.text.specs.declared.answer.Reading.the-variants.{Circuit, Refused}
+use Rattle.text.specs.declared.answer.Fault.the-variants.{Length, Shape, Range, Reference, Depth, Nodes}
 use Rattle.text.specs.declared.answer.Reading.{Reading}
+use Rattle.text.specs.declared.answer.Reading.the-variants.{Circuit, Refused}
 
 abbrev pub faultNumber : Fault → ℕ
 faultNumber Length = 10
@@ -14,7 +14,7 @@ faultNumber Shape = 11
 faultNumber Range = 12
 faultNumber Reference = 13
 faultNumber Depth = 14
-faultNumber Capacity = 15
+faultNumber Nodes = 15
 
 -- the numbers of variables and of nodes
 abbrev pub readingOf : Reading → Outcome (ℕ × ℕ)
@@ -24,6 +24,6 @@ readingOf (Refused f p) = refused (faultNumber f) p
 -- the mask of the variables that are true
 abbrev pub assignmentOf : AssignmentReading → Outcome ℕ
 assignmentOf (Assignment m) = answered m
-assignmentOf Variables = refused 21 0
-assignmentOf (Misshapen p) = refused 51 p
-assignmentOf (Misplaced p) = refused 52 p
+assignmentOf Sizes = refused 21 0
+assignmentOf (LineShape p) = refused 51 p
+assignmentOf (LineOrder p) = refused 52 p

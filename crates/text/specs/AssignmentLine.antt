@@ -6,16 +6,16 @@ use mathlib.Core.List.{List}
 use lib.Dec.{ltb, leb, eqb}
 use lib.ListN.{length}
 use Rattle.masks.specs.Mask.{put}
-use Rattle.circuits.specs.Check.{variablesFit}
-use Rattle.circuits.specs.Outcome.{Outcome, answered, refused}
+use Rattle.table.specs.Outcome.{Outcome, answered, refused}
+use Rattle.table.specs.Words.{variablesFit}
 use Rattle.text.specs.Ascii.{ascii}
 use Rattle.text.specs.Read.{end, byteAt, numberAt, matchAt}
-use Rattle.text.specs.declared.answer.Member.the-variants.{Close, Next, Wrong, Unordered}
 use Rattle.text.specs.declared.answer.Member.{Member}
-use Rattle.text.specs.declared.head.Matched.the-variants.{Past, Differs}
+use Rattle.text.specs.declared.answer.Member.the-variants.{Close, Next, Wrong, Unordered}
 use Rattle.text.specs.declared.head.Matched.{Matched}
-use Rattle.text.specs.declared.number.Numeral.the-variants.{Value, Missing}
+use Rattle.text.specs.declared.head.Matched.the-variants.{Past, Differs}
 use Rattle.text.specs.declared.number.Numeral.{Numeral}
+use Rattle.text.specs.declared.number.Numeral.the-variants.{Value, Missing}
 
 -- a number from low up to below N, before a space or a closing bracket
 abbrev pub variableOf : List ℕ → ℕ → ℕ → ℕ → Numeral → Member
@@ -57,3 +57,8 @@ stowThen s N (Past p) = membersAt (length s) s N 0 p 0
 -- reading the line s over N variables; no line has more variables than bytes
 unfoldable pub readAssignment : List ℕ → ℕ → Outcome ℕ
 readAssignment s N = cond (variablesFit N) (stowThen s N (matchAt s 0 (ascii "(stow"))) (refused 21 0)
+
+-- the mask that comes with an answer: 0 where the line is refused
+abbrev pub maskOf : Outcome ℕ → ℕ
+maskOf (answered m) = m
+maskOf (refused k p) = 0

@@ -1,12 +1,12 @@
 -- The faults of a syntax tree: numbers 12 to 15 with their places, in the order of their bytes.
-use Prim.Native.Nat.{ℕ, zero, suc, _+_, _-_}
+use Prim.Native.Nat.{ℕ, zero, suc, _+_, _-_, _≤_}
 use mathlib.Core.Bool.{Bool, cond}
 use mathlib.Core.List.{List, [], _∷_, _++_}
 use lib.Dec.{ltb}
 use lib.ListN.{length}
-use Rattle.circuits.specs.Check.{variablesFit}
-use Rattle.text.specs.Syntax.{decimal, printForm, Tree, Form, constantForm, literalForm, decisionForm, conjunctionForm}
-use Rattle.text.specs.Syntax.{lineForm}
+use Rattle.table.specs.Words.{variablesFit}
+use Rattle.text.specs.Limits.{maxDepth}
+use Rattle.text.specs.Syntax.{decimal, printForm, Tree, Form, constantForm, literalForm, decisionForm, conjunctionForm, lineForm}
 
 -- (k, p) where the test fails
 abbrev pub unless : Bool → ℕ → ℕ → List (ℕ × ℕ)
@@ -49,10 +49,15 @@ module _ (N k room : ℕ) where
 unfoldable pub linesFaults : ℕ → ℕ → ℕ → ℕ → ℕ → List Form → List (ℕ × ℕ)
 linesFaults N room k at n [] = []
 linesFaults N room k at n (f ∷ fs) =
-    formFaults N k room 16 at n f ++ linesFaults N room (suc k) (at + length (printForm f) + 1) (n + nodesIn f) fs
+    formFaults N k room maxDepth at n f ++ linesFaults N room (suc k) (at + length (printForm f) + 1) (n + nodesIn f) fs
 
 -- the whole text, with room for so many nodes
 unfoldable pub treeFaults : ℕ → Tree → List (ℕ × ℕ)
 treeFaults room t =
     let p : ℕ = 9 + length (decimal (t .variables)) in
     unless (variablesFit (t .variables)) 12 p ++ linesFaults (t .variables) room 0 (p + 2) 0 (t .lines)
+
+-- places from lo to hi, none below the one before
+abbrev pub Between : ℕ → ℕ → List (ℕ × ℕ) → Type 0
+Between lo hi [] = lo ≤ hi
+Between lo hi (e ∷ fs) = (lo ≤ e .1) × Between (e .1) hi fs

@@ -1,9 +1,13 @@
 pub mod Ascii
+pub mod Limits
 pub mod Syntax
 pub mod Answers
+pub mod Words
 pub mod Read
 pub mod Places
 pub mod Faults
 pub mod Write
 pub mod AssignmentLine
 pub mod AssignmentSyntax
+pub mod Meaning
+pub mod LineMeaning

@@ -3,25 +3,27 @@ use Prim.Native.Nat.{ℕ, _*_, _<_, _≤_}
 use mathlib.Core.List.{List}
 use mathlib.Core.Path.{_≡_}
 use lib.ListN.{length}
-use Rattle.circuits.specs.Node.{nodeWords}
+use Rattle.table.specs.Node.{nodeWords, maxNodes}
 use Rattle.text.specs.Answers.{readingOf}
 use Rattle.text.specs.Read.{Stepped, Paired, ReadOut}
-use Rattle.text.specs.declared.answer.Reading.{Reading}
-use Rattle.text.specs.declared.answer.Member.the-variants.{Close, Next, Wrong, Unordered}
 use Rattle.text.specs.declared.answer.Member.{Member}
-use Rattle.text.specs.declared.answer.Pair.the-variants.{Halt, Two}
+use Rattle.text.specs.declared.answer.Member.the-variants.{Close, Next, Wrong, Unordered}
 use Rattle.text.specs.declared.answer.Pair.{Pair}
-use Rattle.text.specs.declared.answer.Step.the-variants.{Stop, Made}
+use Rattle.text.specs.declared.answer.Pair.the-variants.{Halt, Two}
+use Rattle.text.specs.declared.answer.Reading.{Reading}
 use Rattle.text.specs.declared.answer.Step.{Step}
-use Rattle.text.specs.declared.head.InRange.the-variants.{Inside, Unfit}
+use Rattle.text.specs.declared.answer.Step.the-variants.{Stop, Made}
 use Rattle.text.specs.declared.head.InRange.{InRange}
+use Rattle.text.specs.declared.head.InRange.the-variants.{Inside, Unfit}
 use Rattle.text.specs.declared.head.Limits.{Limits}
-use Rattle.text.specs.declared.head.Matched.the-variants.{Past, Differs}
 use Rattle.text.specs.declared.head.Matched.{Matched}
-use Rattle.text.specs.declared.head.Opening.the-variants.{Broken, Leaf, Inner, Line}
+use Rattle.text.specs.declared.head.Matched.the-variants.{Past, Differs}
 use Rattle.text.specs.declared.head.Opening.{Opening}
-use Rattle.text.specs.declared.number.Numeral.the-variants.{Value, Missing}
+use Rattle.text.specs.declared.head.Opening.the-variants.{Broken, Leaf, Inner, Line}
+use Rattle.text.specs.declared.head.Spelled.{Spelled}
+use Rattle.text.specs.declared.head.Spelled.the-variants.{Is, None}
 use Rattle.text.specs.declared.number.Numeral.{Numeral}
+use Rattle.text.specs.declared.number.Numeral.the-variants.{Value, Missing}
 
 abbrev pub NumeralRuns : List ℕ → ℕ → Numeral → Type 0
 NumeralRuns s at Missing = Unit
@@ -38,6 +40,10 @@ RangedRuns s at high (Inside v p) = (at < p) × (p < length s) × (v < high)
 abbrev pub HeaderRuns : List ℕ → InRange → Type 0
 HeaderRuns s (Unfit f p) = Unit
 HeaderRuns s (Inside v p) = p ≤ length s
+
+abbrev pub SpelledRuns : List ℕ → ℕ → Spelled → Type 0
+SpelledRuns s at (None p) = Unit
+SpelledRuns s at (Is w p) = (at ≤ p) × (p ≤ length s)
 
 abbrev pub OpeningRuns : List ℕ → ℕ → ℕ → Opening → Type 0
 OpeningRuns s at earlier (Broken f p) = Unit
@@ -61,8 +67,8 @@ MemberRuns s at N (Unordered p) = Unit
 
 -- what the form reader needs of what it is lent
 pub record Fit (words lines : List ℕ) (g : Limits) : Type 0 where
-  pub room : nodeWords * g .capacity ≤ length words
-  pub few : g .capacity ≤ 1024
+  pub enough : nodeWords * g .room ≤ length words
+  pub few : g .room ≤ maxNodes
   pub known : g .earlier ≤ length lines
 
 -- the answer r and the words v are those that the definition gives

@@ -5,25 +5,34 @@ use mathlib.Core.Bool.{cond}
 use mathlib.Core.List.{List, [], _∷_}
 use lib.Dec.{ltb, leb, eqb}
 use lib.ListN.{length, getD, set, replicate}
-use Rattle.circuits.specs.Node.{nodeWords}
-use Rattle.circuits.specs.Outcome.{Outcome, answered, refused}
+use Rattle.table.specs.Node.{nodeWords, maxVariables, maxNodes, falseNumber, trueNumber, positiveNumber, negativeNumber, decisionNumber}
+use Rattle.table.specs.Node.{conjunctionNumber}
+use Rattle.table.specs.Outcome.{Outcome, answered, refused}
 use Rattle.text.specs.Answers.{faultNumber}
 use Rattle.text.specs.Ascii.{ascii}
-use Rattle.text.specs.declared.answer.Fault.the-variants.{Shape, Range, Reference, Depth, Capacity}
+use Rattle.text.specs.Limits.{maxBytes, maxDepth, maxLines}
+use Rattle.text.specs.Words.{spelling, wordsFor, orWord}
 use Rattle.text.specs.declared.answer.Fault.{Fault}
-use Rattle.text.specs.declared.answer.Pair.the-variants.{Halt, Two}
+use Rattle.text.specs.declared.answer.Fault.the-variants.{Shape, Range, Reference, Depth, Nodes}
 use Rattle.text.specs.declared.answer.Pair.{Pair}
-use Rattle.text.specs.declared.answer.Step.the-variants.{Stop, Made}
+use Rattle.text.specs.declared.answer.Pair.the-variants.{Halt, Two}
 use Rattle.text.specs.declared.answer.Step.{Step}
-use Rattle.text.specs.declared.head.InRange.the-variants.{Inside, Unfit}
+use Rattle.text.specs.declared.answer.Step.the-variants.{Stop, Made}
 use Rattle.text.specs.declared.head.InRange.{InRange}
+use Rattle.text.specs.declared.head.InRange.the-variants.{Inside, Unfit}
 use Rattle.text.specs.declared.head.Limits.{Limits}
-use Rattle.text.specs.declared.head.Matched.the-variants.{Past, Differs}
 use Rattle.text.specs.declared.head.Matched.{Matched}
-use Rattle.text.specs.declared.head.Opening.the-variants.{Broken, Leaf, Inner, Line}
+use Rattle.text.specs.declared.head.Matched.the-variants.{Past, Differs}
 use Rattle.text.specs.declared.head.Opening.{Opening}
-use Rattle.text.specs.declared.number.Numeral.the-variants.{Value, Missing}
+use Rattle.text.specs.declared.head.Opening.the-variants.{Broken, Leaf, Inner, Line}
+use Rattle.text.specs.declared.head.Role.{Role}
+use Rattle.text.specs.declared.head.Role.the-variants.{OwnForm, Argument}
+use Rattle.text.specs.declared.head.Spelled.{Spelled}
+use Rattle.text.specs.declared.head.Spelled.the-variants.{Is, None}
+use Rattle.text.specs.declared.head.Word.{Word}
+use Rattle.text.specs.declared.head.Word.the-variants.{False, True, Yes, No, Pick, Both, Line as LineWord}
 use Rattle.text.specs.declared.number.Numeral.{Numeral}
+use Rattle.text.specs.declared.number.Numeral.the-variants.{Value, Missing}
 
 -- ---- bytes and numbers
 -- stands for the byte at the end of a text, and is no byte
@@ -67,28 +76,10 @@ rangedOf s at low high next fault (Value v p) =
 unfoldable pub rangedAt : List ℕ → ℕ → ℕ → ℕ → ℕ → Fault → InRange
 rangedAt s at low high next fault = rangedOf s at low high next fault (numberAt s at)
 
--- the kind that a form's first letter says: 0 to 5 as in the table, 6 for `line`, 7 for none
-unfoldable pub kindOf : ℕ → ℕ
-kindOf c =
-    cond (eqb c (code "f")) 0
-    (cond (eqb c (code "t")) 1
-    (cond (eqb c (code "y")) 2
-    (cond (eqb c (code "n")) 3 (cond (eqb c (code "p")) 4 (cond (eqb c (code "b")) 5 (cond (eqb c (code "l")) 6 7))))))
-
--- kinds below these numbers may stand as a line's own form, and as an argument
-abbrev pub ownKinds : ℕ
-ownKinds = 6
-
-abbrev pub allKinds : ℕ
-allKinds = 7
-
--- what follows the first letter of a kind's word
-abbrev pub wordOf : ℕ → List ℕ
-wordOf k =
-    cond (eqb k 0) (ascii "alse")
-    (cond (eqb k 1) (ascii "rue")
-    (cond (eqb k 2) (ascii "es ")
-    (cond (eqb k 3) (ascii "o ") (cond (eqb k 4) (ascii "ick ") (cond (eqb k 5) (ascii "oth") (ascii "ine "))))))
+-- which of the words stands at a place
+unfoldable pub wordAt : List ℕ → ℕ → List Word → Spelled
+wordAt s at [] = None at
+wordAt s at (w ∷ ws) = orWord w (matchAt s at (spelling w)) (wordAt s at ws)
 
 abbrev pub leafOf : ℕ → InRange → Opening
 leafOf kind (Unfit f p) = Broken f p
@@ -102,25 +93,28 @@ abbrev pub lineOf : InRange → Opening
 lineOf (Unfit f p) = Broken f p
 lineOf (Inside v p) = Line v p
 
+-- the variable of a literal
+abbrev pub literalAt : List ℕ → ℕ → ℕ → Limits → Opening
+literalAt s at kind g = leafOf kind (rangedAt s at 0 (g .variables) (code ")") Range)
+
 -- what stands after a form's word: no number, a variable or a line
-unfoldable pub tailAt : List ℕ → ℕ → ℕ → Limits → Opening
-tailAt s at kind g =
-    cond (ltb kind 2) (Leaf kind 0 at)
-    (cond (ltb kind 4) (leafOf kind (rangedAt s at 0 (g .variables) (code ")") Range))
-    (cond (eqb kind 4) (innerOf kind (rangedAt s at 0 (g .variables) (code " ") Range))
-    (cond (eqb kind 5) (Inner kind 0 at) (lineOf (rangedAt s at 0 (g .earlier) (code ")") Reference)))))
+unfoldable pub tailAt : List ℕ → ℕ → Word → Limits → Opening
+tailAt s at False g = Leaf falseNumber 0 at
+tailAt s at True g = Leaf trueNumber 0 at
+tailAt s at Yes g = literalAt s at positiveNumber g
+tailAt s at No g = literalAt s at negativeNumber g
+tailAt s at Pick g = innerOf decisionNumber (rangedAt s at 0 (g .variables) (code " ") Range)
+tailAt s at Both g = Inner conjunctionNumber 0 at
+tailAt s at LineWord g = lineOf (rangedAt s at 0 (g .earlier) (code ")") Reference)
 
-abbrev pub wordThen : List ℕ → ℕ → Limits → Matched → Opening
-wordThen s kind g (Differs p) = Broken Shape p
-wordThen s kind g (Past p) = tailAt s p kind g
+abbrev pub wordThen : List ℕ → Limits → Spelled → Opening
+wordThen s g (None p) = Broken Shape p
+wordThen s g (Is w p) = tailAt s p w g
 
--- a form's bracket, word and number; its kind is to be below `kinds`
-unfoldable pub headAt : List ℕ → ℕ → ℕ → Limits → Opening
-headAt s at kinds g =
-    let kind : ℕ = kindOf (byteAt s (at + 1)) in
-    cond (eqb (byteAt s at) (code "("))
-    (cond (leb kinds kind) (Broken Shape (at + 1)) (wordThen s kind g (matchAt s (at + 2) (wordOf kind))))
-    (Broken Shape at)
+-- a form's bracket, word and number
+unfoldable pub headAt : List ℕ → ℕ → Role → Limits → Opening
+headAt s at role g =
+    cond (eqb (byteAt s at) (code "(")) (wordThen s g (wordAt s (at + 1) (wordsFor role))) (Broken Shape at)
 
 -- ---- a form
 -- an answer with the words afterwards
@@ -139,10 +133,10 @@ store w n kind x a b =
 
 -- a closing bracket makes node n
 unfoldable pub closeAt : List ℕ → ℕ → List ℕ → ℕ → ℕ → ℕ → ℕ → ℕ → ℕ → Stepped
-closeAt s at w n capacity kind x a b =
+closeAt s at w n room kind x a b =
     cond (eqb (byteAt s at) (code ")"))
-    (cond (leb capacity n)
-    (record { step = Stop Capacity at; words = w })
+    (cond (leb room n)
+    (record { step = Stop Nodes at; words = w })
     (record { step = Made (at + 1) (n + 1) n; words = store w n kind x a b }))
     (record { step = Stop Shape at; words = w })
 
@@ -176,11 +170,11 @@ setting s lines g = record { text = s; lines = lines; limits = g }
 
 abbrev pub closedOf : Setting → ℕ → ℕ → List ℕ → Pair → Stepped
 closedOf g kind x w (Halt f p) = record { step = Stop f p; words = w }
-closedOf g kind x w (Two p m a b) = closeAt (g .text) p w m (g .limits .capacity) kind x a b
+closedOf g kind x w (Two p m a b) = closeAt (g .text) p w m (g .limits .room) kind x a b
 
 abbrev pub openedOf : (ℕ → List ℕ → ℕ → Stepped) → Setting → List ℕ → ℕ → Opening → Stepped
 openedOf form g w n (Broken f p) = record { step = Stop f p; words = w }
-openedOf form g w n (Leaf kind x p) = closeAt (g .text) p w n (g .limits .capacity) kind x 0 0
+openedOf form g w n (Leaf kind x p) = closeAt (g .text) p w n (g .limits .room) kind x 0 0
 openedOf form g w n (Line k p) = record { step = Made (p + 1) n (getD (g .lines) k 0); words = w }
 openedOf form g w n (Inner kind x p) =
     closedOf g kind x (argsWith form (g .text) p w n .words) (argsWith form (g .text) p w n .pair)
@@ -189,14 +183,14 @@ openedOf form g w n (Inner kind x p) =
 abbrev pub deepFault : List ℕ → ℕ → Fault
 deepFault s at = cond (eqb (byteAt s at) (code "(")) Depth Shape
 
--- a form after n nodes, in which d brackets may be open in one another; its kind is to be below `kinds`
-unfoldable pub formAt : ℕ → Setting → ℕ → ℕ → List ℕ → ℕ → Stepped
-formAt zero g kinds at w n = record { step = Stop (deepFault (g .text) at) at; words = w }
-formAt (suc d) g kinds at w n =
-    openedOf (formAt d g allKinds) g w n (headAt (g .text) at kinds (g .limits))
+-- a form after n nodes, in which d brackets may be open in one another
+unfoldable pub formAt : ℕ → Setting → Role → ℕ → List ℕ → ℕ → Stepped
+formAt zero g role at w n = record { step = Stop (deepFault (g .text) at) at; words = w }
+formAt (suc d) g role at w n =
+    openedOf (formAt d g Argument) g w n (headAt (g .text) at role (g .limits))
 
 unfoldable pub argsAt : ℕ → Setting → ℕ → List ℕ → ℕ → Paired
-argsAt d g at w n = argsWith (formAt d g allKinds) (g .text) at w n
+argsAt d g at w n = argsWith (formAt d g Argument) (g .text) at w n
 
 -- ---- the whole text
 -- the answer, N and n, with every lent word
@@ -215,17 +209,14 @@ lineEnd next s N w (Made p m a) =
     (cond (eqb (byteAt s (p + 1)) end) (answers (answered (N, m)) w) (next (p + 1) m a w))
     (answers (refused 11 p) w)
 
--- how many lines are looked at: each makes a node, and of 1,025 nodes the last has no room
-abbrev pub maxLines : ℕ
-maxLines = 1025
-
 -- the lines from line k on, at most `more`; `lines` has the node that each earlier line means
 unfoldable pub linesAt : ℕ → List ℕ → ℕ → ℕ → List ℕ → ℕ → ℕ → ℕ → List ℕ → ReadOut
-linesAt zero s N capacity lines k at n w = answers (refused 15 at) w
-linesAt (suc more) s N capacity lines k at n w =
-    let g : Limits = record { variables = N; capacity = capacity; earlier = k } in
-    let r : Stepped = formAt 16 (setting s lines g) ownKinds at w n in
-    lineEnd (λ p m a v. linesAt more s N capacity (set lines k a) (k + 1) p m v) s N (r .words) (r .step)
+-- not reached: each line makes a node, and of 1,025 nodes the last has no room
+linesAt zero s N room lines k at n w = answers (refused 15 at) w
+linesAt (suc more) s N room lines k at n w =
+    let g : Limits = record { variables = N; room = room; earlier = k } in
+    let r : Stepped = formAt maxDepth (setting s lines g) OwnForm at w n in
+    lineEnd (λ p m a v. linesAt more s N room (set lines k a) (k + 1) p m v) s N (r .words) (r .step)
 
 abbrev pub headerThen : List ℕ → InRange → InRange
 headerThen s (Unfit f p) = Unfit f p
@@ -233,7 +224,7 @@ headerThen s (Inside v p) = cond (eqb (byteAt s (p + 1)) (code "\n")) (Inside v 
 
 abbrev pub headerOf : List ℕ → Matched → InRange
 headerOf s (Differs p) = Unfit Shape p
-headerOf s (Past p) = headerThen s (rangedAt s p 1 41 (code ")") Range)
+headerOf s (Past p) = headerThen s (rangedAt s p 1 (maxVariables + 1) (code ")") Range)
 
 -- `(circuit N)` and byte 10
 unfoldable pub headerAt : List ℕ → InRange
@@ -241,7 +232,7 @@ headerAt s = headerOf s (matchAt s 0 (ascii "(circuit "))
 
 -- how many nodes there is room for in m lent words
 abbrev pub roomOf : ℕ → ℕ
-roomOf m = cond (ltb (m / nodeWords) 1024) (m / nodeWords) 1024
+roomOf m = cond (ltb (m / nodeWords) maxNodes) (m / nodeWords) maxNodes
 
 -- a refusal leaves every word 0
 abbrev pub settled : ℕ → List ℕ → Outcome (ℕ × ℕ) → ReadOut
@@ -256,4 +247,4 @@ bodyOf s m (Inside N p) =
 
 -- reading the text s with m lent words
 unfoldable pub readText : List ℕ → ℕ → ReadOut
-readText s m = cond (ltb 40000 (length s)) (answers (refused 10 40000) (replicate m 0)) (bodyOf s m (headerAt s))
+readText s m = cond (ltb maxBytes (length s)) (answers (refused 10 maxBytes) (replicate m 0)) (bodyOf s m (headerAt s))

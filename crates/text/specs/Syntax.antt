@@ -7,7 +7,9 @@ use mathlib.Core.Logic.{_≢_}
 use mathlib.Core.Path.{_≡_}
 use lib.Dec.{ltb}
 use lib.ListN.{length, getD}
+use Rattle.table.specs.Node.{maxVariables, falseNumber, trueNumber, positiveNumber, negativeNumber, decisionNumber, conjunctionNumber}
 use Rattle.text.specs.Ascii.{ascii}
+use Rattle.text.specs.Limits.{maxBytes, maxDepth}
 
 -- ---- trees
 pub data Form : Type 0 where
@@ -98,18 +100,18 @@ makes w n kind x a b = record { words = w ++ (kind ∷ x ∷ a ∷ b ∷ []); no
 
 -- the nodes of a form after n others, its children's first; `earlier` has the node that each earlier line means
 unfoldable pub compileForm : List ℕ → ℕ → Form → Compiled
-compileForm earlier n (constantForm false) = makes [] n 0 0 0 0
-compileForm earlier n (constantForm true) = makes [] n 1 0 0 0
-compileForm earlier n (literalForm true x) = makes [] n 2 x 0 0
-compileForm earlier n (literalForm false x) = makes [] n 3 x 0 0
+compileForm earlier n (constantForm false) = makes [] n falseNumber 0 0 0
+compileForm earlier n (constantForm true) = makes [] n trueNumber 0 0 0
+compileForm earlier n (literalForm true x) = makes [] n positiveNumber x 0 0
+compileForm earlier n (literalForm false x) = makes [] n negativeNumber x 0 0
 compileForm earlier n (decisionForm x f g) =
     let a : Compiled = compileForm earlier n f in
     let b : Compiled = compileForm earlier (a .nodes) g in
-    makes (a .words ++ b .words) (b .nodes) 4 x (a .node) (b .node)
+    makes (a .words ++ b .words) (b .nodes) decisionNumber x (a .node) (b .node)
 compileForm earlier n (conjunctionForm f g) =
     let a : Compiled = compileForm earlier n f in
     let b : Compiled = compileForm earlier (a .nodes) g in
-    makes (a .words ++ b .words) (b .nodes) 5 0 (a .node) (b .node)
+    makes (a .words ++ b .words) (b .nodes) conjunctionNumber 0 (a .node) (b .node)
 compileForm earlier n (lineForm k) = record { words = []; nodes = n; node = getD earlier k 0 }
 
 unfoldable pub compileLines : List ℕ → ℕ → List Form → Compiled
@@ -131,14 +133,14 @@ depth (decisionForm x f g) = suc (max (depth f) (depth g))
 depth (conjunctionForm f g) = suc (max (depth f) (depth g))
 depth (lineForm k) = 1
 
--- lines from line k on: each V below N, each K an earlier line, at most 16 brackets deep
+-- lines from line k on: each V below N, each K an earlier line, brackets not too deep
 abbrev pub LinesWithin : ℕ → ℕ → List Form → Type 0
 LinesWithin N k [] = Unit
-LinesWithin N k (f ∷ fs) = Below N k f × (depth f ≤ 16) × LinesWithin N (suc k) fs
+LinesWithin N k (f ∷ fs) = Below N k f × (depth f ≤ maxDepth) × LinesWithin N (suc k) fs
 
 pub record Within (room : ℕ) (t : Tree) : Type 0 where
-  pub bytes : length (print t) ≤ 40000
+  pub bytes : length (print t) ≤ maxBytes
   pub low : 1 ≤ t .variables
-  pub high : t .variables ≤ 40
+  pub high : t .variables ≤ maxVariables
   pub each : LinesWithin (t .variables) 0 (t .lines)
-  pub capacity : compile t .nodes ≤ room
+  pub nodes : compile t .nodes ≤ room

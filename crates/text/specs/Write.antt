@@ -1,21 +1,22 @@
 -- The writing of a table as circuit text: node i as line i, each child as `(line K)`.
 use Prim.Native.Nat.{ℕ}
 use mathlib.Core.Bool.{false, cond}
-use mathlib.Core.List.{List, [], _∷_, _++_, map}
+use mathlib.Core.List.{List, _++_, map}
 use lib.Dec.{ltb}
 use lib.ListN.{length, getD, drop}
 use Rattle.masks.specs.Numbers.{below}
-use Rattle.circuits.specs.Check.{malformed, checkBy}
-use Rattle.circuits.specs.Node.{nodeAt, Node, constant, literal, decision, conjunction, unknown}
-use Rattle.circuits.specs.Outcome.{Outcome, answered, refused}
+use Rattle.table.specs.Node.{nodeAt, Node, constant, literal, decision, conjunction, unknown}
+use Rattle.table.specs.Outcome.{Outcome, answered, refused}
+use Rattle.table.specs.Words.{checkWords}
 use Rattle.text.specs.Syntax.{print, Tree, Form, constantForm, literalForm, decisionForm, conjunctionForm, lineForm}
 
--- a node's form (no node of a written table is unknown)
+-- a node's form
 abbrev pub nodeForm : Node → Form
 nodeForm (constant v) = constantForm v
 nodeForm (literal v x) = literalForm v x
 nodeForm (decision x a b) = decisionForm x (lineForm a) (lineForm b)
 nodeForm (conjunction cs) = conjunctionForm (lineForm (getD cs 0 0)) (lineForm (getD cs 1 0))
+-- never written: 22 comes first
 nodeForm unknown = constantForm false
 
 -- the syntax tree of a table of n nodes over N variables
@@ -40,10 +41,6 @@ writeText text sink =
 abbrev pub writeChecked : List ℕ → List ℕ → Outcome (Unit {0}) → WriteOut
 writeChecked text sink (answered u) = writeText text sink
 writeChecked text sink (refused k i) = record { answer = refused k i; sink = sink }
-
--- 21, then 22 with its lowest node
-unfoldable pub checkWords : ℕ → ℕ → List ℕ → Outcome (Unit {0})
-checkWords N n w = checkBy N n w ((22, malformed N w) ∷ [])
 
 -- writing the table into a sink
 unfoldable pub writeTable : ℕ → ℕ → List ℕ → List ℕ → WriteOut

@@ -15,10 +15,10 @@ pub enum Fault {
     // 14: a bracket seventeen deep
     Depth,
     // 15: no room for the node
-    Capacity,
+    Nodes,
 }
 
-// The paper's number.
+// The scope's number.
 pub fn fault_number(fault: Fault) -> u32
     ensures { λ r. ⌜ r ≡ faultNumber fault ⌝ }
 {
@@ -28,7 +28,7 @@ pub fn fault_number(fault: Fault) -> u32
         Fault::Range => 12,
         Fault::Reference => 13,
         Fault::Depth => 14,
-        Fault::Capacity => 15,
+        Fault::Nodes => 15,
     }
 }
 
@@ -43,11 +43,11 @@ pub enum AssignmentReading {
     // the mask of the variables that are true
     Assignment(u64),
     // 21: a number of variables outside its range
-    Variables,
+    Sizes,
     // 51: wrong shape, at this place
-    Misshapen(usize),
+    LineShape(usize),
     // 52: a variable out of range or out of order, at this place
-    Misplaced(usize),
+    LineOrder(usize),
 }
 
 // After a form was read.

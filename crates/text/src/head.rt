@@ -2,8 +2,9 @@
 ghost use mathlib.Core.Path.{_≡_};
 ghost use Prim.Native.Nat.{_+_, _≤_, _<_};
 ghost use lib.ListN.{length};
-ghost use Rattle.text.specs.Read.{matchAt, rangedAt, kindOf, wordOf, tailAt, headAt};
-ghost use Rattle.text.specs.Places.{MatchedRuns, RangedRuns, OpeningRuns};
+ghost use Rattle.text.specs.Places.{MatchedRuns, RangedRuns, SpelledRuns, OpeningRuns};
+ghost use Rattle.text.specs.Read.{matchAt, rangedAt, wordAt, literalAt, tailAt, headAt};
+ghost use Rattle.text.specs.Words.{lineWord, wordsFor, orWord};
 use super::answer::Fault;
 use super::number::CLOSE;
 use super::number::Numeral;
@@ -11,6 +12,12 @@ use super::number::OPEN;
 use super::number::SPACE;
 use super::number::byte_at;
 use super::number::number;
+use table::CONJUNCTION;
+use table::DECISION;
+use table::FALSE;
+use table::NEGATIVE;
+use table::POSITIVE;
+use table::TRUE;
 
 pub enum Matched {
     // the place past the bytes
@@ -20,7 +27,7 @@ pub enum Matched {
 }
 
 // The bytes of w at a place.
-pub fn literal(s: &[u8], at: usize, w: &[u8]) -> Matched
+pub fn match_at(s: &[u8], at: usize, w: &[u8]) -> Matched
     requires { ⌜ (at ≤ length (now s)) × (length (now w) ≤ 16) ⌝ }
     ensures { λ r. ⌜ (r ≡ matchAt (now (s .entry)) at (now (w .entry))) × MatchedRuns (now (s .entry)) at r ⌝ }
 {
@@ -62,36 +69,73 @@ pub fn ranged(s: &[u8], at: usize, low: u32, high: u32, next: u32, fault: Fault)
     }
 }
 
-// The kind that a form's first letter says: 0 to 5 as in the table, 6 for line, 7 for none.
-fn kind_of(c: u32) -> u32
-    ensures { λ r. ⌜ (r ≡ kindOf c) × (r ≤ 7) × (r < 7 → c < 256) ⌝ }
+// The words that forms begin with.
+pub enum Word {
+    False,
+    True,
+    Yes,
+    No,
+    Pick,
+    Both,
+    Line,
+}
+
+// Where a form stands: as a line's own form, which is not `line`, or as an argument of another form.
+pub enum Role {
+    OwnForm,
+    Argument,
+}
+
+// Which word stands at a place.
+pub enum Spelled {
+    // this one; the place past it
+    Is(Word, usize),
+    // none; the furthest place that one of them reaches
+    None(usize),
+}
+
+// This word where it stands at the place, or else what is known of the others.
+fn or_word(s: &[u8], at: usize, bytes: &[u8], word: Word, others: Spelled) -> Spelled
+    requires { ⌜ (at ≤ length (now s)) × (length (now bytes) ≤ 16) × SpelledRuns (now s) at others ⌝ }
+    ensures { λ r. ⌜ (r ≡ orWord word (matchAt (now (s .entry)) at (now (bytes .entry))) others) × SpelledRuns (now (s .entry)) at r ⌝ }
 {
-    match c {
-        102 => 0, // f
-        116 => 1, // t
-        121 => 2, // y
-        110 => 3, // n
-        112 => 4, // p
-        98 => 5, // b
-        108 => 6, // l
-        _ => 7,
+    match match_at(s, at, bytes) {
+        Matched::Past(p) => Spelled::Is(word, p),
+        Matched::Differs(p) => match others {
+            Spelled::Is(w, q) => Spelled::Is(w, q),
+            Spelled::None(q) => {
+                if q < p {
+                    return Spelled::None(p);
+                }
+                Spelled::None(q)
+            }
+        },
     }
 }
 
-// The rest of the kind's word, after its first letter.
-fn word(s: &[u8], at: usize, kind: u32) -> Matched
-    requires { ⌜ (at ≤ length (now s)) × (kind ≤ 6) ⌝ }
-    ensures { λ r. ⌜ (r ≡ matchAt (now (s .entry)) at (wordOf kind)) × MatchedRuns (now (s .entry)) at r ⌝ }
+// The word `line`, where it may stand.
+fn line_word(s: &[u8], at: usize, role: Role) -> Spelled
+    requires { ⌜ at ≤ length (now s) ⌝ }
+    ensures { λ r. ⌜ (r ≡ wordAt (now (s .entry)) at (lineWord role)) × SpelledRuns (now (s .entry)) at r ⌝ }
 {
-    match kind {
-        0 => literal(s, at, b"alse"),
-        1 => literal(s, at, b"rue"),
-        2 => literal(s, at, b"es "),
-        3 => literal(s, at, b"o "),
-        4 => literal(s, at, b"ick "),
-        5 => literal(s, at, b"oth"),
-        _ => literal(s, at, b"ine "),
+    match role {
+        Role::OwnForm => Spelled::None(at),
+        Role::Argument => or_word(s, at, b"line ", Word::Line, Spelled::None(at)),
     }
+}
+
+// The word of a form.
+fn word_at(s: &[u8], at: usize, role: Role) -> Spelled
+    requires { ⌜ at ≤ length (now s) ⌝ }
+    ensures { λ r. ⌜ (r ≡ wordAt (now (s .entry)) at (wordsFor role)) × SpelledRuns (now (s .entry)) at r ⌝ }
+{
+    let line = line_word(s, at, role);
+    let both = or_word(s, at, b"both", Word::Both, line);
+    let pick = or_word(s, at, b"pick ", Word::Pick, both);
+    let no = or_word(s, at, b"no ", Word::No, pick);
+    let yes = or_word(s, at, b"yes ", Word::Yes, no);
+    let truth = or_word(s, at, b"true", Word::True, yes);
+    or_word(s, at, b"false", Word::False, truth)
 }
 
 // What does not change while a line is read.
@@ -99,7 +143,7 @@ pub struct Limits {
     // the number of variables
     pub variables: u32,
     // how many nodes there is room for
-    pub capacity: u32,
+    pub room: u32,
     // the number of earlier lines
     pub earlier: u32,
 }
@@ -114,49 +158,49 @@ pub enum Opening {
     Line(u32, usize),
 }
 
-// What stands after the word of a form.
-fn tail(s: &[u8], at: usize, kind: u32, limits: Limits) -> Opening
-    requires { ⌜ (at ≤ length (now s)) × (kind ≤ 6) ⌝ }
-    ensures { λ r. ⌜ (r ≡ tailAt (now (s .entry)) at kind limits) × OpeningRuns (now (s .entry)) at (limits .earlier) r ⌝ }
+// The variable of a literal, after its word.
+fn literal_at(s: &[u8], at: usize, kind: u32, limits: Limits) -> Opening
+    requires { ⌜ at ≤ length (now s) ⌝ }
+    ensures { λ r. ⌜ (r ≡ literalAt (now (s .entry)) at kind limits) × OpeningRuns (now (s .entry)) at (limits .earlier) r ⌝ }
 {
-    if kind < 2 {
-        return Opening::Leaf(kind, 0, at);
-    }
-    if kind < 4 {
-        return match ranged(s, at, 0, limits.variables, CLOSE, Fault::Range) {
-            InRange::Unfit(f, p) => Opening::Broken(f, p),
-            InRange::Inside(v, p) => Opening::Leaf(kind, v, p),
-        };
-    }
-    if kind == 4 {
-        return match ranged(s, at, 0, limits.variables, SPACE, Fault::Range) {
-            InRange::Unfit(f, p) => Opening::Broken(f, p),
-            InRange::Inside(v, p) => Opening::Inner(kind, v, p),
-        };
-    }
-    if kind == 5 {
-        return Opening::Inner(kind, 0, at);
-    }
-    match ranged(s, at, 0, limits.earlier, CLOSE, Fault::Reference) {
+    match ranged(s, at, 0, limits.variables, CLOSE, Fault::Range) {
         InRange::Unfit(f, p) => Opening::Broken(f, p),
-        InRange::Inside(v, p) => Opening::Line(v, p),
+        InRange::Inside(v, p) => Opening::Leaf(kind, v, p),
+    }
+}
+
+// What stands after the word of a form.
+fn tail(s: &[u8], at: usize, word: Word, limits: Limits) -> Opening
+    requires { ⌜ at ≤ length (now s) ⌝ }
+    ensures { λ r. ⌜ (r ≡ tailAt (now (s .entry)) at word limits) × OpeningRuns (now (s .entry)) at (limits .earlier) r ⌝ }
+{
+    match word {
+        Word::False => Opening::Leaf(FALSE, 0, at),
+        Word::True => Opening::Leaf(TRUE, 0, at),
+        Word::Yes => literal_at(s, at, POSITIVE, limits),
+        Word::No => literal_at(s, at, NEGATIVE, limits),
+        Word::Pick => match ranged(s, at, 0, limits.variables, SPACE, Fault::Range) {
+            InRange::Unfit(f, p) => Opening::Broken(f, p),
+            InRange::Inside(v, p) => Opening::Inner(DECISION, v, p),
+        },
+        Word::Both => Opening::Inner(CONJUNCTION, 0, at),
+        Word::Line => match ranged(s, at, 0, limits.earlier, CLOSE, Fault::Reference) {
+            InRange::Unfit(f, p) => Opening::Broken(f, p),
+            InRange::Inside(v, p) => Opening::Line(v, p),
+        },
     }
 }
 
 // A form up to its first child, or to its closing bracket where it has none.
-pub fn head(s: &[u8], at: usize, kinds: u32, limits: Limits) -> Opening
-    requires { ⌜ (at ≤ length (now s)) × (kinds ≤ 7) ⌝ }
-    ensures { λ r. ⌜ (r ≡ headAt (now (s .entry)) at kinds limits) × OpeningRuns (now (s .entry)) (at + 1) (limits .earlier) r ⌝ }
+pub fn head(s: &[u8], at: usize, role: Role, limits: Limits) -> Opening
+    requires { ⌜ at ≤ length (now s) ⌝ }
+    ensures { λ r. ⌜ (r ≡ headAt (now (s .entry)) at role limits) × OpeningRuns (now (s .entry)) (at + 1) (limits .earlier) r ⌝ }
 {
     if byte_at(s, at) != OPEN {
         return Opening::Broken(Fault::Shape, at);
     }
-    let kind = kind_of(byte_at(s, at + 1));
-    if kinds <= kind {
-        return Opening::Broken(Fault::Shape, at + 1);
-    }
-    match word(s, at + 2, kind) {
-        Matched::Differs(p) => Opening::Broken(Fault::Shape, p),
-        Matched::Past(p) => tail(s, p, kind, limits),
+    match word_at(s, at + 1, role) {
+        Spelled::None(p) => Opening::Broken(Fault::Shape, p),
+        Spelled::Is(word, p) => tail(s, p, word, limits),
     }
 }

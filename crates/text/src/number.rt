@@ -2,8 +2,8 @@
 ghost use mathlib.Core.Path.{_≡_};
 ghost use Prim.Native.Nat.{_+_, _≤_, _<_};
 ghost use lib.ListN.{length};
-ghost use Rattle.text.specs.Read.{byteAt, digitAt, numberAt};
 ghost use Rattle.text.specs.Places.{NumeralRuns};
+ghost use Rattle.text.specs.Read.{byteAt, digitAt, numberAt};
 
 // Stands for the byte at the end of a text, and is no byte.
 pub const END: u32 = 256;

@@ -2,14 +2,16 @@
 ghost use mathlib.Core.Path.{_≡_};
 ghost use Prim.Native.Nat.{_+_, _≤_, _<_};
 ghost use lib.ListN.{length};
+ghost use Rattle.table.specs.Node.{maxVariables};
 ghost use Rattle.text.specs.Answers.{assignmentOf};
 ghost use Rattle.text.specs.AssignmentLine.{memberAt, closedAt, membersAt, readAssignment};
 ghost use Rattle.text.specs.Places.{MemberRuns};
 use masks::with_bit;
+use table::MAX_VARIABLES;
 use text::answer::AssignmentReading;
 use text::answer::Member;
 use text::head::Matched;
-use text::head::literal;
+use text::head::match_at;
 use text::number::CLOSE;
 use text::number::END;
 use text::number::NEWLINE;
@@ -51,17 +53,17 @@ fn closed(s: &[u8], at: usize, mask: u64) -> AssignmentReading
     ensures { λ r. ⌜ assignmentOf r ≡ closedAt (now (s .entry)) at mask ⌝ }
 {
     if byte_at(s, at) != NEWLINE {
-        return AssignmentReading::Misshapen(at);
+        return AssignmentReading::LineShape(at);
     }
     if byte_at(s, at + 1) != END {
-        return AssignmentReading::Misshapen(at + 1);
+        return AssignmentReading::LineShape(at + 1);
     }
     AssignmentReading::Assignment(mask)
 }
 
 // The variables and the end of the line.
 fn members(s: &[u8], variables: u32, start: usize) -> AssignmentReading
-    requires { ⌜ (start ≤ length (now s)) × (variables ≤ 40) ⌝ }
+    requires { ⌜ (start ≤ length (now s)) × (variables ≤ maxVariables) ⌝ }
     ensures { λ r. ⌜ assignmentOf r ≡ membersAt (length (now (s .entry))) (now (s .entry)) variables 0 start 0 ⌝ }
 {
     let mut at = start;
@@ -74,10 +76,10 @@ fn members(s: &[u8], variables: u32, start: usize) -> AssignmentReading
                 return closed(s, p, mask);
             }
             Member::Wrong(p) => {
-                return AssignmentReading::Misshapen(p);
+                return AssignmentReading::LineShape(p);
             }
             Member::Unordered(p) => {
-                return AssignmentReading::Misplaced(p);
+                return AssignmentReading::LineOrder(p);
             }
             Member::Next(v, p) => {
                 mask = with_bit(mask, v);
@@ -87,7 +89,7 @@ fn members(s: &[u8], variables: u32, start: usize) -> AssignmentReading
         }
         k = k + 1;
     }
-    AssignmentReading::Misshapen(at)
+    AssignmentReading::LineShape(at)
 }
 
 // Reads the line of an assignment of so many variables.
@@ -95,13 +97,13 @@ pub fn read_assignment(line: &[u8], variables: u32) -> AssignmentReading
     ensures { λ r. ⌜ assignmentOf r ≡ readAssignment (now (line .entry)) variables ⌝ }
 {
     if variables < 1 {
-        return AssignmentReading::Variables;
+        return AssignmentReading::Sizes;
     }
-    if 40 < variables {
-        return AssignmentReading::Variables;
+    if MAX_VARIABLES < variables {
+        return AssignmentReading::Sizes;
     }
-    match literal(line, 0, b"(stow") {
-        Matched::Differs(p) => AssignmentReading::Misshapen(p),
+    match match_at(line, 0, b"(stow") {
+        Matched::Differs(p) => AssignmentReading::LineShape(p),
         Matched::Past(p) => members(line, variables, p),
     }
 }

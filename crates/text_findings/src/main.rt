@@ -15,10 +15,8 @@ use text_writer::writer::write;
 // A refusal with its place.
 fn print_refusal(number: u32, place: usize) {
     let mut line = [0u8; 256];
-    if place < 100000 {
-        let n = refusal_line(&mut line, number, place as u32);
-        print(&line, n);
-    }
+    let n = refusal_line(&mut line, number, place as u64);
+    print(&line, n);
 }
 
 // Why a circuit text is refused.
@@ -34,7 +32,7 @@ fn print_table(words: &[u32], variables: u32, nodes: u32) {
     match write(words, variables, nodes, &mut sink) {
         Written::Done(n) => print(&sink, n),
         Written::Refused(_) => {}
-        Written::Short(n) => print_refusal(16, n),
+        Written::Sink(n) => print_refusal(16, n),
     }
 }
 
@@ -68,9 +66,9 @@ fn assignment(line: &[u8], variables: u32) {
             );
             print(&row, n);
         }
-        AssignmentReading::Variables => print_refusal(21, 0),
-        AssignmentReading::Misshapen(p) => print_refusal(51, p),
-        AssignmentReading::Misplaced(p) => print_refusal(52, p),
+        AssignmentReading::Sizes => print_refusal(21, 0),
+        AssignmentReading::LineShape(p) => print_refusal(51, p),
+        AssignmentReading::LineOrder(p) => print_refusal(52, p),
     }
 }
 

@@ -23,8 +23,9 @@ use denote.Struct.Declared.{Declared}
 use denote.Struct.Laws as LL
 use denote.Struct.Rest.{all-own, ownAt, rest, own-open, own-out}
 use denote.Struct.Values.{Values}
+use Rattle.text.specs.Limits.{maxLines}
 use Rattle.text.specs.Places.{ReadIs}
-use Rattle.text.specs.Read.{maxLines, linesAt, roomOf}
+use Rattle.text.specs.Read.{linesAt, roomOf}
 use Rattle.text.specs.declared.answer.Reading.{Reading}
 use Rattle.text.proofs.answer.Reading as S
 use Rattle.text_reader.specs.declared.held.HeldText.{HeldText}

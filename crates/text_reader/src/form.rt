@@ -1,25 +1,22 @@
 // A form, with the forms in it: the form reader calls the argument reader and is called by it.
 ghost use mathlib.Core.Path.{_≡_};
-ghost use Prim.Native.Nat.{_+_, _*_, _≤_, _<_};
+ghost use Prim.Native.Nat.{_+_, _*_, _≤_};
 ghost use lib.ListN.{length};
-ghost use Rattle.circuits.specs.Node.{nodeWords};
-ghost use Rattle.text.specs.Read.{deepFault, closeAt, formAt, argsAt, setting};
+ghost use Rattle.table.specs.Node.{nodeWords, maxNodes};
 ghost use Rattle.text.specs.Places.{Fit, StepIs, PairIs};
+ghost use Rattle.text.specs.Read.{deepFault, closeAt, formAt, argsAt, setting};
+use table::NODE_WORDS;
 use text::answer::Fault;
 use text::answer::Pair;
 use text::answer::Step;
 use text::head::Limits;
 use text::head::Opening;
+use text::head::Role;
 use text::head::head;
 use text::number::CLOSE;
 use text::number::OPEN;
 use text::number::SPACE;
 use text::number::byte_at;
-
-// Kinds below these numbers may stand as a line's own form, and as an argument.
-pub const OWN_KINDS: u32 = 6;
-
-pub const ALL_KINDS: u32 = 7;
 
 // The closing bracket makes node n.
 fn close(
@@ -27,23 +24,23 @@ fn close(
     at: usize,
     words: &mut [u32],
     n: u32,
-    capacity: u32,
+    room: u32,
     kind: u32,
     x: u32,
     a: u32,
     b: u32,
 ) -> Step
-    requires { ⌜ (at ≤ length (now s)) × (nodeWords * capacity ≤ length (now words)) × (capacity ≤ 1024) ⌝ }
+    requires { ⌜ (at ≤ length (now s)) × (nodeWords * room ≤ length (now words)) × (room ≤ maxNodes) ⌝ }
     ensures { λ r. ⌜ StepIs (now (s .entry)) at r (now (words .exit))
-        (closeAt (now (s .entry)) at (now (words .entry)) n capacity kind x a b) ⌝ }
+        (closeAt (now (s .entry)) at (now (words .entry)) n room kind x a b) ⌝ }
 {
     if byte_at(s, at) != CLOSE {
         return Step::Stop(Fault::Shape, at);
     }
-    if capacity <= n {
-        return Step::Stop(Fault::Capacity, at);
+    if room <= n {
+        return Step::Stop(Fault::Nodes, at);
     }
-    let i = 4 * (n as usize);
+    let i = NODE_WORDS * (n as usize);
     words[i] = kind;
     words[i + 1] = x;
     words[i + 2] = a;
@@ -70,25 +67,25 @@ pub fn form(
     lines: &[u32],
     limits: Limits,
     left: u32,
-    kinds: u32,
+    role: Role,
 ) -> Step
-    requires { ⌜ (at ≤ length (now s)) × Fit (now words) (now lines) limits × (kinds ≤ 7) ⌝ }
+    requires { ⌜ (at ≤ length (now s)) × Fit (now words) (now lines) limits ⌝ }
     ensures { λ r. ⌜ StepIs (now (s .entry)) at r (now (words .exit))
-        (formAt left (setting (now (s .entry)) (now (lines .entry)) limits) kinds at (now (words .entry)) n) ⌝ }
+        (formAt left (setting (now (s .entry)) (now (lines .entry)) limits) role at (now (words .entry)) n) ⌝ }
 {
     if left == 0 {
         return Step::Stop(too_deep(s, at), at);
     }
-    match head(s, at, kinds, limits) {
+    match head(s, at, role, limits) {
         Opening::Broken(f, p) => Step::Stop(f, p),
-        Opening::Leaf(kind, x, p) => close(s, p, words, n, limits.capacity, kind, x, 0, 0),
+        Opening::Leaf(kind, x, p) => close(s, p, words, n, limits.room, kind, x, 0, 0),
         Opening::Line(k, p) => {
             let i = k as usize;
             Step::Made(p + 1, n, lines[i])
         }
         Opening::Inner(kind, x, p) => match args(s, p, words, n, lines, limits, left - 1) {
             Pair::Halt(f, q) => Step::Stop(f, q),
-            Pair::Two(q, m, a, b) => close(s, q, words, m, limits.capacity, kind, x, a, b),
+            Pair::Two(q, m, a, b) => close(s, q, words, m, limits.room, kind, x, a, b),
         },
     }
 }
@@ -110,13 +107,13 @@ fn args(
     if byte_at(s, at) != SPACE {
         return Pair::Halt(Fault::Shape, at);
     }
-    match form(s, at + 1, words, n, lines, limits, left, ALL_KINDS) {
+    match form(s, at + 1, words, n, lines, limits, left, Role::Argument) {
         Step::Stop(f, p) => Pair::Halt(f, p),
         Step::Made(p, m, a) => {
             if byte_at(s, p) != SPACE {
                 return Pair::Halt(Fault::Shape, p);
             }
-            match form(s, p + 1, words, m, lines, limits, left, ALL_KINDS) {
+            match form(s, p + 1, words, m, lines, limits, left, Role::Argument) {
                 Step::Stop(f, q) => Pair::Halt(f, q),
                 Step::Made(q, o, b) => Pair::Two(q, o, a, b),
             }

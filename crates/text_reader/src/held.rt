@@ -3,8 +3,9 @@
 ghost use mathlib.Core.Path.{_≡_};
 ghost use Prim.Native.Nat.{_≤_};
 ghost use lib.ListN.{length, replicate};
+ghost use Rattle.text.specs.Limits.{maxLines};
 ghost use Rattle.text.specs.Places.{ReadIs};
-ghost use Rattle.text.specs.Read.{maxLines, linesAt, roomOf};
+ghost use Rattle.text.specs.Read.{linesAt, roomOf};
 use super::lines::lines;
 use text::answer::Reading;
 

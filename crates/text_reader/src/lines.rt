@@ -2,29 +2,35 @@
 ghost use mathlib.Core.Path.{_≡_};
 ghost use Prim.Native.Nat.{_*_, _≤_};
 ghost use lib.ListN.{length, replicate};
-ghost use Rattle.circuits.specs.Node.{nodeWords};
+ghost use Rattle.table.specs.Node.{nodeWords, maxNodes};
+ghost use Rattle.text.specs.Limits.{maxLines};
 ghost use Rattle.text.specs.Places.{ReadIs};
-ghost use Rattle.text.specs.Read.{maxLines, linesAt, roomOf};
-use super::form::OWN_KINDS;
+ghost use Rattle.text.specs.Read.{linesAt, roomOf};
 use super::form::form;
+use table::MAX_NODES;
+use table::NODE_WORDS;
 use text::answer::Fault;
 use text::answer::Reading;
 use text::answer::Step;
 use text::head::Limits;
+use text::head::Role;
+use text::limits::MAX_DEPTH;
+use text::limits::MAX_LINES;
 use text::number::END;
 use text::number::NEWLINE;
 use text::number::byte_at;
 
 // How many nodes there is room for in so many words.
 fn room_of(words: usize) -> u32
-    ensures { λ r. ⌜ (r ≡ roomOf words) × (r ≤ 1024) × (nodeWords * r ≤ words) ⌝ }
+    ensures { λ r. ⌜ (r ≡ roomOf words) × (r ≤ maxNodes) × (nodeWords * r ≤ words) ⌝ }
 {
-    let q = words / 4;
-    if q < 1024 { q as u32 } else { 1024 }
+    let q = words / NODE_WORDS;
+    if q < (MAX_NODES as usize) {
+        q as u32
+    } else {
+        MAX_NODES
+    }
 }
-
-// How many brackets may be open in one another.
-const MAX_DEPTH: u32 = 16;
 
 // The lines after the header; `nodes` has the node that each earlier line means.
 pub fn lines(s: &[u8], start: usize, words: &mut [u32], variables: u32) -> Reading
@@ -33,18 +39,18 @@ pub fn lines(s: &[u8], start: usize, words: &mut [u32], variables: u32) -> Readi
         (linesAt maxLines (now (s .entry)) variables (roomOf (length (now (words .entry)))) (replicate maxLines 0) 0 start 0
         (now (words .entry))) ⌝ }
 {
-    let capacity = room_of(words.len());
-    let mut nodes = [0u32; 1025];
+    let room = room_of(words.len());
+    let mut nodes = [0u32; MAX_LINES as usize];
     let mut at = start;
     let mut n: u32 = 0;
     let mut k: u32 = 0;
-    while k < 1025 {
+    while k < MAX_LINES {
         let limits = Limits {
             variables,
-            capacity,
+            room,
             earlier: k,
         };
-        match form(s, at, words, n, &nodes, limits, MAX_DEPTH, OWN_KINDS) {
+        match form(s, at, words, n, &nodes, limits, MAX_DEPTH, Role::OwnForm) {
             Step::Stop(f, p) => {
                 return Reading::Refused(f, p);
             }
@@ -63,5 +69,5 @@ pub fn lines(s: &[u8], start: usize, words: &mut [u32], variables: u32) -> Readi
         }
         k = k + 1;
     }
-    Reading::Refused(Fault::Capacity, at)
+    Reading::Refused(Fault::Nodes, at)
 }

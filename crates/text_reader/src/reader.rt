@@ -5,23 +5,28 @@ ghost use Rattle.text.specs.Places.{HeaderRuns, ReadIs};
 ghost use Rattle.text.specs.Read.{headerAt, readText};
 use super::held::lines_from;
 use buffers::zero_words;
+use table::MAX_VARIABLES;
 use text::answer::Fault;
 use text::answer::Reading;
 use text::head::InRange;
 use text::head::Matched;
-use text::head::literal;
+use text::head::match_at;
 use text::head::ranged;
+use text::limits::MAX_BYTES;
 use text::number::CLOSE;
 use text::number::NEWLINE;
 use text::number::byte_at;
+
+// The numbers of variables are below this.
+const VARIABLES_END: u32 = MAX_VARIABLES + 1;
 
 // `(circuit N)` and byte 10.
 fn header(s: &[u8]) -> InRange
     ensures { λ r. ⌜ (r ≡ headerAt (now (s .entry))) × HeaderRuns (now (s .entry)) r ⌝ }
 {
-    match literal(s, 0, b"(circuit ") {
+    match match_at(s, 0, b"(circuit ") {
         Matched::Differs(p) => InRange::Unfit(Fault::Shape, p),
-        Matched::Past(p) => match ranged(s, p, 1, 41, CLOSE, Fault::Range) {
+        Matched::Past(p) => match ranged(s, p, 1, VARIABLES_END, CLOSE, Fault::Range) {
             InRange::Unfit(f, q) => InRange::Unfit(f, q),
             InRange::Inside(v, q) => {
                 if byte_at(s, q + 1) != NEWLINE {
@@ -38,8 +43,8 @@ pub fn read(text: &[u8], words: &mut [u32]) -> Reading
     ensures { λ r. ⌜ ReadIs r (now (words .exit)) (readText (now (text .entry)) (length (now (words .entry)))) ⌝ }
 {
     zero_words(words);
-    if 40000 < text.len() {
-        return Reading::Refused(Fault::Length, 40000);
+    if MAX_BYTES < text.len() {
+        return Reading::Refused(Fault::Length, MAX_BYTES);
     }
     match header(text) {
         InRange::Unfit(f, p) => Reading::Refused(f, p),

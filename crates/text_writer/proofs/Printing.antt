@@ -4,7 +4,7 @@ use mathlib.Core.Path.{_≡_, refl, sym, ap, _∙_}
 use mathlib.Core.List.{List, [], _∷_, _++_, map, append-nil, append-assoc, map-append}
 use native.Mathlib.Numerals.{add-one}
 use Rattle.masks.specs.Numbers.{below}
-use Rattle.circuits.specs.Node.{nodeAt}
+use Rattle.table.specs.Node.{nodeAt}
 use Rattle.text.specs.Ascii.{ascii}
 use Rattle.text.specs.Syntax.{printForm, printLines, Form}
 use Rattle.text.specs.Write.{nodeForm}

@@ -33,14 +33,14 @@ pub fn put_bytes(d: &mut [u8], at: usize, w: &[u8]) -> usize
 }
 
 // The digit of v at a unit, where v has one there.
-pub fn put_digit(d: &mut [u8], at: usize, v: u32, unit: u32) -> usize
+pub fn put_digit(d: &mut [u8], at: usize, v: u64, unit: u64) -> usize
     requires { ⌜ (at < 900000) × (0 < unit) ⌝ }
     ensures { λ r. ⌜ Wrote (now (d .entry)) at (now (d .exit)) r (digitText unit v) × (r ≤ at + 1) ⌝ }
 {
     if v < unit {
         return at;
     }
-    put(d, at, (FIRST_DIGIT + v / unit % 10) as u8)
+    put(d, at, (FIRST_DIGIT + (v / unit % 10) as u32) as u8)
 }
 
 // A number in base ten.
@@ -48,8 +48,9 @@ pub fn put_number(d: &mut [u8], at: usize, v: u32) -> usize
     requires { ⌜ at < 800000 ⌝ }
     ensures { λ r. ⌜ Wrote (now (d .entry)) at (now (d .exit)) r (decimal v) × (r ≤ at + 4) ⌝ }
 {
-    let p = put_digit(d, at, v, 1000);
-    let q = put_digit(d, p, v, 100);
-    let t = put_digit(d, q, v, 10);
+    let w = v as u64;
+    let p = put_digit(d, at, w, 1000);
+    let q = put_digit(d, p, w, 100);
+    let t = put_digit(d, q, w, 10);
     put(d, t, (FIRST_DIGIT + v % 10) as u8)
 }

@@ -3,16 +3,17 @@ ghost use mathlib.Core.Path.{_≡_};
 ghost use Prim.Native.Nat.{_+_, _*_, _≤_, _<_};
 ghost use mathlib.Core.List.{_++_};
 ghost use lib.ListN.{length};
-ghost use Rattle.circuits.specs.Node.{kind as kindNumber, node, nodeWords};
+ghost use Rattle.table.specs.Node.{kind as kindNumber, node, nodeWords, maxNodes};
 ghost use Rattle.text.specs.Ascii.{ascii};
-ghost use Rattle.text_writer.specs.Sink.{Wrote, WriteIs};
 ghost use Rattle.text.specs.Syntax.{decimal, printForm};
-ghost use Rattle.text.specs.Write.{nodeForm, tableText, writeTable};
+ghost use Rattle.text.specs.Write.{nodeForm, tableText, writeText, writeTable};
+ghost use Rattle.text_writer.specs.Sink.{Wrote, WriteIs};
 use super::sink::put_bytes;
 use super::sink::put_number;
-use circuits::Refusal;
-use circuits::table::first_malformed;
-use circuits::table::in_range;
+use table::Checked;
+use table::NODE_WORDS;
+use table::Refusal;
+use table::words::check_words;
 
 pub enum Written {
     // the length of the text
@@ -20,7 +21,7 @@ pub enum Written {
     // 21 or 22
     Refused(Refusal),
     // 16: the length that is needed
-    Short(usize),
+    Sink(usize),
 }
 
 // A number and the end of the line.
@@ -52,6 +53,7 @@ fn put_line(d: &mut [u8], at: usize, kind: u32, x: u32, a: u32, b: u32) -> usize
         (printForm (nodeForm (node (kindNumber kind) x a b)) ++ ascii "\n") × (r ≤ at + 128) ⌝ }
 {
     match kind {
+        0 => put_bytes(d, at, b"(false)\n"),
         1 => put_bytes(d, at, b"(true)\n"),
         2 => {
             let p = put_bytes(d, at, b"(yes ");
@@ -70,13 +72,13 @@ fn put_line(d: &mut [u8], at: usize, kind: u32, x: u32, a: u32, b: u32) -> usize
             let p = put_bytes(d, at, b"(both");
             put_children(d, p, a, b)
         }
-        _ => put_bytes(d, at, b"(false)\n"),
+        6.. => put_bytes(d, at, b"(false)\n"),
     }
 }
 
 // The header and the line of each node.
 fn put_table(d: &mut [u8], words: &[u32], variables: u32, nodes: usize) -> usize
-    requires { ⌜ (nodeWords * nodes ≤ length (now words)) × (nodes ≤ 1024) ⌝ }
+    requires { ⌜ (nodeWords * nodes ≤ length (now words)) × (nodes ≤ maxNodes) ⌝ }
     ensures { λ r. ⌜ Wrote (now (d .entry)) 0 (now (d .exit)) r (tableText variables nodes (now (words .entry))) ⌝ }
 {
     let h = put_bytes(d, 0, b"(circuit ");
@@ -84,7 +86,7 @@ fn put_table(d: &mut [u8], words: &[u32], variables: u32, nodes: usize) -> usize
     let mut p = g;
     let mut i: usize = 0;
     while i < nodes {
-        let j = 4 * i;
+        let j = NODE_WORDS * i;
         p = put_line(d, p, words[j], words[j + 1], words[j + 2], words[j + 3]);
         i = i + 1;
     }
@@ -93,28 +95,31 @@ fn put_table(d: &mut [u8], words: &[u32], variables: u32, nodes: usize) -> usize
 
 // The length of the text.
 fn measure(words: &[u32], variables: u32, nodes: usize) -> usize
-    requires { ⌜ (nodeWords * nodes ≤ length (now words)) × (nodes ≤ 1024) ⌝ }
+    requires { ⌜ (nodeWords * nodes ≤ length (now words)) × (nodes ≤ maxNodes) ⌝ }
     ensures { λ r. ⌜ r ≡ length (tableText variables nodes (now (words .entry))) ⌝ }
 {
     let mut none = [0u8; 1];
     put_table(&mut none[..0], words, variables, nodes)
 }
 
+// The text into the sink, if it fits.
+fn write_fitting(words: &[u32], variables: u32, n: usize, sink: &mut [u8]) -> Written
+    requires { ⌜ (nodeWords * n ≤ length (now words)) × (n ≤ maxNodes) ⌝ }
+    ensures { λ r. ⌜ WriteIs r (now (sink .exit)) (writeText (tableText variables n (now (words .entry))) (now (sink .entry))) ⌝ }
+{
+    let need = measure(words, variables, n);
+    if sink.len() < need {
+        return Written::Sink(need);
+    }
+    Written::Done(put_table(sink, words, variables, n))
+}
+
 // Writes a table as text: node i as line i. A refusal leaves the sink unchanged.
 pub fn write(words: &[u32], variables: u32, nodes: u32, sink: &mut [u8]) -> Written
     ensures { λ r. ⌜ WriteIs r (now (sink .exit)) (writeTable variables nodes (now (words .entry)) (now (sink .entry))) ⌝ }
 {
-    if !in_range(words, variables, nodes) {
-        return Written::Refused(Refusal::Range);
+    match check_words(words, variables, nodes) {
+        Checked::Refused(why) => Written::Refused(why),
+        Checked::Accepted => write_fitting(words, variables, nodes as usize, sink),
     }
-    let n = nodes as usize;
-    let i = first_malformed(words, variables, n);
-    if i < n {
-        return Written::Refused(Refusal::Malformed(i as u32));
-    }
-    let need = measure(words, variables, n);
-    if sink.len() < need {
-        return Written::Short(need);
-    }
-    Written::Done(put_table(sink, words, variables, n))
 }

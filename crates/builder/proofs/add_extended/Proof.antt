@@ -4,10 +4,9 @@ use mathlib.Core.Path.{_≡_, sym, subst, _∙_}
 use mathlib.Core.Bool.{Bool, true, false, cond}
 use mathlib.Core.List.{List, [], _∷_}
 use borrow.Author.Needs.{needs}
-use Rattle.terms.specs.Term.{extend}
+use Rattle.terms.specs.Joins.{extended}
+use Rattle.terms.specs.Term.{extend, termsOf}
 use Rattle.terms.specs.declared.Term.{Term}
-use Rattle.terms.proofs.Built.{extended}
-use Rattle.lists.specs.Scans.{termsOf}
 use Rattle.insertion.specs.Filled.{bySign}
 use Rattle.insertion.specs.declared.Kept.the-variants.{Count}
 use Rattle.insertion.proofs.Parts.{even, filled-none}

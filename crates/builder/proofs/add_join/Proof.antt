@@ -6,12 +6,12 @@ use mathlib.Core.List.{List, [], _∷_}
 use native.Mathlib.Omega.{arith}
 use lib.Seq.{length-take-le}
 use borrow.Author.Needs.{needs}
+use Rattle.terms.specs.Joins.{joinsWith}
 use Rattle.terms.specs.Lists.{keep, insert}
 use Rattle.terms.specs.Order.{before}
-use Rattle.terms.specs.Term.{join, conflict}
+use Rattle.terms.specs.Term.{join, conflict, termsOf}
 use Rattle.terms.specs.declared.Term.{Term}
-use Rattle.terms.proofs.Built.{joinsWith}
-use Rattle.lists.specs.Scans.{termsOf, termAt}
+use Rattle.lists.specs.Scans.{termAt}
 use Rattle.lists.specs.declared.Shorter.{Shorter}
 use Rattle.lists.specs.declared.Shorter.the-variants.{None, At}
 use Rattle.insertion.specs.Filled.{bySign, held, Filled}

@@ -5,9 +5,9 @@ use mathlib.Core.Bool.{Bool, true, false, not}
 use mathlib.Core.List.{List, [], _++_}
 use lib.ListN.{length}
 use borrow.Author.Needs.{needs}
+use Rattle.terms.specs.Joins.{extended}
+use Rattle.terms.specs.Term.{termsOf}
 use Rattle.terms.specs.declared.Term.{Term}
-use Rattle.terms.proofs.Built.{extended}
-use Rattle.lists.specs.Scans.{termsOf}
 use Rattle.insertion.specs.Filled.{bySign, Filled}
 use Rattle.insertion.specs.declared.Kept.{Kept}
 use Rattle.insertion.specs.declared.Kept.the-variants.{Count, Full}

@@ -5,8 +5,9 @@ use mathlib.Core.Bool.{Bool, _&&_, not}
 use mathlib.Core.List.{List}
 use lib.ListN.{length}
 use borrow.Author.Needs.{needs}
+use Rattle.terms.specs.Term.{termsOf}
 use Rattle.terms.specs.declared.Term.{Term}
-use Rattle.lists.specs.Scans.{termsOf, shorterJoin, Found}
+use Rattle.lists.specs.Scans.{shorterJoin, Found}
 use Rattle.lists.specs.declared.Shorter.{Shorter}
 use Rattle.lists.specs.declared.Shorter.the-variants.{None, At}
 use Rattle.lists.proofs.Least.{shorter-there}

@@ -3,7 +3,8 @@ use Prim.Native.Nat.{ℕ}
 use mathlib.Core.Path.{_≡_, sym, ap₂, _∙_}
 use mathlib.Core.Bool.{Bool, true, false, _&&_, not, true≢false}
 use borrow.Author.Needs.{needs}
-use Rattle.lists.specs.Scans.{termsOf, shorterAt}
+use Rattle.terms.specs.Term.{termsOf}
+use Rattle.lists.specs.Scans.{shorterAt}
 use Rattle.lists.proofs.Least.{shorter-there}
 use Rattle.builder.specs.Made.{allowed}
 use Rattle.builder.proofs.is_dropped.Statement.{statement}

@@ -7,15 +7,16 @@ use mathlib.Core.List.{List}
 use native.Mathlib.Omega.{arith}
 use lib.ListN.{length, length-replicate}
 use borrow.Author.Needs.{needs}
+use Rattle.terms.specs.Term.{termsOf}
 use Rattle.terms.specs.declared.Term.{Term}
-use Rattle.lists.specs.Scans.{termsOf, termAt}
+use Rattle.lists.specs.Scans.{termAt}
 use Rattle.insertion.specs.Filled.{bySign}
 use Rattle.insertion.specs.declared.Kept.{Kept}
 use Rattle.insertion.specs.declared.Kept.the-variants.{Count, Full}
 use Rattle.insertion.proofs.Parts.{Even, even}
 use Rattle.builder.specs.Made.{Added}
-use Rattle.builder.proofs.Turns.{allMade, turn-start, turn-length, turn-fits, turn-end, turn-full, turn-next, joiningAll}
-use Rattle.builder.proofs.Turns.{Steps, Turn}
+use Rattle.builder.proofs.Turns.{allMade, turn-start, turn-length, turn-fits, turn-end, turn-full, turn-next, joiningAll, Steps}
+use Rattle.builder.proofs.Turns.{Turn}
 use Rattle.builder.proofs.join_all.Statement.{statement}
 use Rattle.builder.proofs.join_all.Tie as tie
 

@@ -8,16 +8,17 @@ use mathlib.Core.List.{List}
 use native.Mathlib.Omega.{arith}
 use lib.ListN.{length}
 use borrow.Author.Needs.{needs}
+use Rattle.terms.specs.Term.{termsOf}
 use Rattle.terms.specs.declared.Term.{Term}
-use Rattle.lists.specs.Scans.{termsOf, termAt}
+use Rattle.lists.specs.Scans.{termAt}
 use Rattle.insertion.specs.Filled.{bySign}
 use Rattle.insertion.specs.declared.Kept.the-variants.{Count}
 use Rattle.insertion.proofs.Parts.{Even, even}
 use Rattle.builder.specs.Made.{Added, allowed, keptBy}
 use Rattle.builder.specs.declared.Joined.{Joined}
 use Rattle.builder.specs.declared.Joined.the-variants.{Held, Over, Longer}
-use Rattle.builder.proofs.Turns.{allMade, turn-start, turn-length, turn-fits, turn-end, turn-full, turn-next, joiningOne}
-use Rattle.builder.proofs.Turns.{Steps, Turn}
+use Rattle.builder.proofs.Turns.{allMade, turn-start, turn-length, turn-fits, turn-end, turn-full, turn-next, joiningOne, Steps}
+use Rattle.builder.proofs.Turns.{Turn}
 use Rattle.builder.proofs.join_each.Statement.{statement}
 use Rattle.builder.proofs.join_each.Tie as tie
 

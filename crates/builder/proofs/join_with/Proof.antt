@@ -4,10 +4,10 @@ use mathlib.Core.Path.{_≡_, sym, ap, subst, _∙_}
 use mathlib.Core.Bool.{Bool, true, false, cond}
 use mathlib.Core.List.{List, [], _∷_}
 use borrow.Author.Needs.{needs}
+use Rattle.terms.specs.Joins.{joinsWith}
 use Rattle.terms.specs.Lists.{keep}
+use Rattle.terms.specs.Term.{termsOf}
 use Rattle.terms.specs.declared.Term.{Term}
-use Rattle.terms.proofs.Built.{joinsWith}
-use Rattle.lists.specs.Scans.{termsOf}
 use Rattle.insertion.specs.Filled.{bySign}
 use Rattle.builder.specs.Made.{Added, allowed, madeWith}
 use Rattle.builder.proofs.join_with.Statement.{statement}

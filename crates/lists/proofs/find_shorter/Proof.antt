@@ -9,8 +9,9 @@ use native.Mathlib.Omega.{arith}
 use lib.ListN.{length, drop}
 use borrow.Author.Needs.{needs}
 use Rattle.terms.specs.Lists.{any}
+use Rattle.terms.specs.Term.{termsOf}
 use Rattle.terms.specs.declared.Term.{Term}
-use Rattle.lists.specs.Scans.{termsOf, termAt, short, shorterJoin, narrowed, Found}
+use Rattle.lists.specs.Scans.{termAt, short, shorterJoin, narrowed, Found}
 use Rattle.lists.specs.declared.Shorter.the-variants.{None}
 use Rattle.lists.proofs.Parts.{drop-terms, drop-end, any-miss, any-end}
 use Rattle.lists.proofs.Search.{commonOf, shorterFrom, search-is, search-next, search-end, shorter-at}

@@ -6,9 +6,9 @@ use native.Mathlib.Omega.{arith}
 use lib.ListN.{length, drop}
 use borrow.Author.Needs.{needs}
 use Rattle.terms.specs.Lists.{any}
-use Rattle.terms.specs.Term.{inside}
+use Rattle.terms.specs.Term.{inside, termsOf}
 use Rattle.terms.specs.declared.Term.{Term}
-use Rattle.lists.specs.Scans.{termsOf, termAt}
+use Rattle.lists.specs.Scans.{termAt}
 use Rattle.lists.proofs.Parts.{any-miss, any-hit, any-end}
 use Rattle.lists.proofs.holds_one.Statement.{statement}
 use Rattle.lists.proofs.holds_one.Tie as tie

@@ -7,10 +7,11 @@ use native.Mathlib.Nat.{le-trans, le-of-eq, mul-le-mul-left, mul-le-mul-right}
 use native.Mathlib.Omega.{arith}
 use lib.ListN.{length, getD}
 use borrow.Author.Needs.{needs}
+use Rattle.table.specs.Gate.{childAt}
+use Rattle.table.specs.Node.{nodeAt, Node}
 use Rattle.terms.specs.declared.Term.{Term}
-use Rattle.circuits.specs.Node.{nodeAt, Node}
 use Rattle.insertion.specs.Filled.{bySign}
-use Rattle.nodes.specs.Part.{Named, nodeMade, termsFrom, childAt, PartFilled}
+use Rattle.nodes.specs.Part.{Named, nodeMade, termsFrom, PartFilled}
 use Rattle.nodes.proofs.fill_node.Statement.{statement}
 use Rattle.nodes.proofs.fill_node.Tie as tie
 

@@ -7,9 +7,9 @@ use native.Mathlib.Omega.{arith}
 use lib.ListN.{length, take, drop}
 use lib.Seq.{length-take-le}
 use borrow.Author.Needs.{needs}
+use Rattle.table.specs.Gate.{gateNode}
+use Rattle.terms.specs.Term.{termsOf}
 use Rattle.terms.specs.declared.Term.{Term}
-use Rattle.circuits.specs.Gate.{gateNode}
-use Rattle.lists.specs.Scans.{termsOf}
 use Rattle.insertion.specs.Filled.{bySign, Filled}
 use Rattle.insertion.proofs.Parts.{Even, even}
 use Rattle.nodes.specs.Part.{nodeMade, termsFrom}

@@ -4,10 +4,10 @@ use mathlib.Core.Path.{_≡_, sym, subst}
 use mathlib.Core.Bool.{Bool}
 use mathlib.Core.List.{List}
 use borrow.Author.Needs.{needs}
-use Rattle.circuits.specs.Gate.{gateNode}
-use Rattle.circuits.specs.declared.Gate.{Gate}
-use Rattle.circuits.specs.declared.Gate.the-variants.{Constant, Literal, Decision, Conjunction, Unknown}
-use Rattle.lists.specs.Scans.{termsOf}
+use Rattle.table.specs.Gate.{gateNode}
+use Rattle.table.specs.declared.Gate.{Gate}
+use Rattle.table.specs.declared.Gate.the-variants.{Constant, Literal, Decision, Conjunction, Unknown}
+use Rattle.terms.specs.Term.{termsOf}
 use Rattle.insertion.specs.Filled.{bySign, Filled}
 use Rattle.insertion.specs.declared.Kept.{Kept}
 use Rattle.insertion.specs.declared.Kept.the-variants.{Count}

@@ -11,8 +11,8 @@ slice-aggregate-put-bytes c = search needs
 put-bytes-requires : tie.Need-put-bytes-requires
 put-bytes-requires c κs = search needs
 
-put-long-requires : tie.Need-put-long-requires
-put-long-requires c κs = search needs
+put-whole-requires : tie.Need-put-whole-requires
+put-whole-requires c κs = search needs
 
 slice-aggregate-put-bytes-2 : tie.Need-slice-aggregate-put-bytes-2
 slice-aggregate-put-bytes-2 c = search needs
@@ -27,9 +27,9 @@ returns : tie.Need-returns
 unfolding countLine
 returns c =
     let at-end = c .before .before in
-    let at-put-long = at-end .before .before .before .before .before in
-    let at-begin = at-put-long .before .before .before .before in
-    after (after (at-begin .put-bytes .ensures .0) (at-put-long .put-long .ensures .0)) (at-end .put-bytes2 .ensures .0)
+    let at-put-whole = at-end .before .before .before .before .before in
+    let at-begin = at-put-whole .before .before .before .before in
+    after (after (at-begin .put-bytes .ensures .0) (at-put-whole .put-whole .ensures .0)) (at-end .put-bytes2 .ensures .0)
 
 pub count-line-spec : {M : Type 1} → statement M
 count-line-spec =
@@ -37,7 +37,7 @@ count-line-spec =
     (tie.spec
     slice-aggregate-put-bytes
     put-bytes-requires
-    put-long-requires
+    put-whole-requires
     slice-aggregate-put-bytes-2
     put-bytes-requires-2
     same-length

@@ -8,10 +8,10 @@ use native.Mathlib.Numerals.{add-one}
 use lib.ListN.{length}
 use borrow.Author.Needs.{needs}
 use Rattle.masks.specs.Mask.{bit}
-use Rattle.terms.specs.declared.Term.{Term}
 use Rattle.text.specs.Ascii.{ascii}
 use Rattle.text_writer.specs.Sink.{Wrote}
 use Rattle.text_writer.proofs.Sinks.{after, nothing, same}
+use Rattle.terms.specs.declared.Term.{Term}
 use Rattle.output.specs.Lines.{markText, literalsText}
 use Rattle.output.proofs.put_literals.Statement.{statement}
 use Rattle.output.proofs.put_literals.Tie as tie

@@ -20,8 +20,8 @@ slice-aggregate-put-bytes-2 c = search needs
 put-bytes-requires-2 : tie.Need-put-bytes-requires-2
 put-bytes-requires-2 c κs = search needs
 
-put-long-requires : tie.Need-put-long-requires
-put-long-requires c κs = search needs
+put-whole-requires : tie.Need-put-whole-requires
+put-whole-requires c κs = search needs
 
 slice-aggregate-put-bytes-3 : tie.Need-slice-aggregate-put-bytes-3
 slice-aggregate-put-bytes-3 c = search needs
@@ -41,7 +41,7 @@ returns c =
     let at-number = at-space .before .before .before .before .before in
     let at-begin = at-number .before .before .before .before in
     after (after (after (after (at-begin .put-bytes .ensures .0) (at-number .put-number .ensures .0))
-    (at-space .put-bytes2 .ensures .0)) (at-place .put-long .ensures .0)) (at-end .put-bytes3 .ensures .0)
+    (at-space .put-bytes2 .ensures .0)) (at-place .put-whole .ensures .0)) (at-end .put-bytes3 .ensures .0)
 
 pub refusal-line-spec : {M : Type 1} → statement M
 refusal-line-spec =
@@ -52,7 +52,7 @@ refusal-line-spec =
     put-number-requires
     slice-aggregate-put-bytes-2
     put-bytes-requires-2
-    put-long-requires
+    put-whole-requires
     slice-aggregate-put-bytes-3
     put-bytes-requires-3
     same-length

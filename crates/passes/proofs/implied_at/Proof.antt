@@ -3,8 +3,8 @@ use mathlib.Core.Path.{_≡_, _∙_}
 use mathlib.Core.Bool.{true, false}
 use lib.ListN.{getD}
 use borrow.Author.Needs.{needs}
-use Rattle.circuits.specs.Gate.{gateNode}
-use Rattle.circuits.specs.declared.Gate.{Gate}
+use Rattle.table.specs.Gate.{gateNode}
+use Rattle.table.specs.declared.Gate.{Gate}
 use Rattle.circuits.proofs.BottomUp.{branch-mem}
 use Rattle.passes.specs.Implied.{nodeImplied, impliedAt}
 use Rattle.passes.proofs.Readable.{readable-words, gate-bounds, implied-from, all-two, Read}

@@ -6,10 +6,10 @@ use native.Mathlib.Omega.{arith}
 use lib.ListN.{getD}
 use borrow.Author.Needs.{needs}
 use Rattle.masks.specs.Mask.{size}
+use Rattle.table.specs.declared.Gate.{Gate}
+use Rattle.table.specs.declared.Gate.the-variants.{Conjunction}
 use Rattle.terms.specs.Term.{has}
 use Rattle.circuits.specs.Function.{function}
-use Rattle.circuits.specs.declared.Gate.{Gate}
-use Rattle.circuits.specs.declared.Gate.the-variants.{Conjunction}
 use Rattle.circuits.proofs.BottomUp.{branch-mem}
 use Rattle.passes.specs.Models.{scaled}
 use Rattle.passes.proofs.ModelPass.{gateModels, constant-le, pass-narrow, pass-readable, entry-le, models-array, result-le}

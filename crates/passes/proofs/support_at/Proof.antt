@@ -3,9 +3,9 @@ use mathlib.Core.Path.{_≡_, _∙_}
 use mathlib.Core.Bool.{true, false}
 use lib.ListN.{getD}
 use borrow.Author.Needs.{needs}
+use Rattle.table.specs.Gate.{gateNode}
+use Rattle.table.specs.declared.Gate.{Gate}
 use Rattle.circuits.specs.Function.{nodeSupport, support}
-use Rattle.circuits.specs.Gate.{gateNode}
-use Rattle.circuits.specs.declared.Gate.{Gate}
 use Rattle.circuits.proofs.BottomUp.{branch-mem}
 use Rattle.passes.proofs.Readable.{readable-words, gate-bounds, support-from, union-two, Read}
 use Rattle.passes.proofs.support_at.Statement.{statement}

@@ -5,9 +5,9 @@ use mathlib.Core.Bool.{Bool, true, false, not, cond}
 use lib.ListN.{getD}
 use borrow.Author.Needs.{needs}
 use Rattle.masks.specs.Mask.{bit}
+use Rattle.table.specs.Gate.{gateNode}
+use Rattle.table.specs.declared.Gate.{Gate}
 use Rattle.circuits.specs.Function.{signed, nodeValue, function}
-use Rattle.circuits.specs.Gate.{gateNode}
-use Rattle.circuits.specs.declared.Gate.{Gate}
 use Rattle.circuits.proofs.BottomUp.{branch-mem}
 use Rattle.passes.proofs.Readable.{readable-words, gate-bounds, value-from, all-two, Read}
 use Rattle.passes.proofs.value_at.Statement.{statement}

@@ -1,8 +1,8 @@
 -- `quelbrift::quelbrift_check` meets its contract.
-use Rattle.quelbrift.specs.Boundary.{nothing}
-use Rattle.queries.specs.Answers.{checked}
-use Rattle.quelbrift.proofs.Settled.{settled}
 use borrow.Author.Needs.{needs}
+use Rattle.table.specs.Outcome.{checked}
+use Rattle.quelbrift.specs.Boundary.{nothing}
+use Rattle.quelbrift.proofs.Settled.{settled}
 use Rattle.quelbrift.proofs.quelbrift_check.Statement.{statement}
 use Rattle.quelbrift.proofs.quelbrift_check.Tie as tie
 

@@ -1,8 +1,8 @@
 -- `quelbrift::quelbrift_count_models` meets its contract.
-use Rattle.quelbrift.specs.Boundary.{number}
-use Rattle.queries.specs.Answers.{counted}
-use Rattle.quelbrift.proofs.Settled.{settled}
 use borrow.Author.Needs.{needs}
+use Rattle.queries.specs.Answers.{counted}
+use Rattle.quelbrift.specs.Boundary.{number}
+use Rattle.quelbrift.proofs.Settled.{settled}
 use Rattle.quelbrift.proofs.quelbrift_count_models.Statement.{statement}
 use Rattle.quelbrift.proofs.quelbrift_count_models.Tie as tie
 

@@ -1,8 +1,8 @@
 -- `quelbrift::quelbrift_evaluate` meets its contract.
-use Rattle.quelbrift.specs.Boundary.{truth}
-use Rattle.queries.specs.Answers.{evaluated}
-use Rattle.quelbrift.proofs.Settled.{settled}
 use borrow.Author.Needs.{needs}
+use Rattle.queries.specs.Answers.{evaluated}
+use Rattle.quelbrift.specs.Boundary.{truth}
+use Rattle.quelbrift.proofs.Settled.{settled}
 use Rattle.quelbrift.proofs.quelbrift_evaluate.Statement.{statement}
 use Rattle.quelbrift.proofs.quelbrift_evaluate.Tie as tie
 

@@ -1,7 +1,7 @@
 -- `quelbrift::quelbrift_is_prime` meets its contract.
-use Rattle.quelbrift.specs.Boundary.{answerOf, truth}
 use mathlib.Core.Path.{ap, _∙_}
 use borrow.Author.Needs.{needs}
+use Rattle.quelbrift.specs.Boundary.{answerOf, truth}
 use Rattle.quelbrift.proofs.quelbrift_is_prime.Statement.{statement}
 use Rattle.quelbrift.proofs.quelbrift_is_prime.Tie as tie
 

@@ -1,8 +1,8 @@
 -- `quelbrift::quelbrift_list` meets its contract.
+use borrow.Author.Needs.{needs}
+use Rattle.listing.specs.Listing.{lent, listTable, listed, ListOut}
 use Rattle.quelbrift.specs.Boundary.{nothing}
 use Rattle.quelbrift.proofs.Settled.{settled}
-use Rattle.primes.specs.Listing.{listTable, listed, ListOut}
-use borrow.Author.Needs.{needs}
 use Rattle.quelbrift.proofs.quelbrift_list.Statement.{statement}
 use Rattle.quelbrift.proofs.quelbrift_list.Tie as tie
 
@@ -34,7 +34,7 @@ same-length-3 c = search needs
 abbrev out : tie.After-list → ListOut
 out h =
     let x = h .before .before .before .before .before .before .before .before .args in
-    listTable (x .variables) (x .nodes) (x .words .now) (x .capacity) (x .positives .now) (x .negatives .now) (x .counts .now)
+    listTable (x .variables) (x .nodes) (x .words .now) (x .capacity) (lent (x .positives .now) (x .negatives .now) (x .counts .now))
 
 returns : tie.Need-returns
 returns c =

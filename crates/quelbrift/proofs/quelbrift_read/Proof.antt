@@ -1,9 +1,9 @@
 -- `quelbrift::quelbrift_read` meets its contract.
-use Rattle.quelbrift.specs.Boundary.{numbers, refusedAt}
 use mathlib.Core.Path.{ap, _∙_}
-use Rattle.text.specs.Answers.{readingOf}
-use Rattle.quelbrift.proofs.Settled.{settled}
 use borrow.Author.Needs.{needs}
+use Rattle.text.specs.Answers.{readingOf}
+use Rattle.quelbrift.specs.Boundary.{numbers, refusedAt}
+use Rattle.quelbrift.proofs.Settled.{settled}
 use Rattle.quelbrift.proofs.quelbrift_read.Statement.{statement}
 use Rattle.quelbrift.proofs.quelbrift_read.Tie as tie
 

@@ -1,8 +1,8 @@
 -- `quelbrift::quelbrift_read_assignment` meets its contract.
+use borrow.Author.Needs.{needs}
+use Rattle.text.specs.Answers.{assignmentOf}
 use Rattle.quelbrift.specs.Boundary.{number}
 use Rattle.quelbrift.proofs.Settled.{settled}
-use Rattle.text.specs.Answers.{assignmentOf}
-use borrow.Author.Needs.{needs}
 use Rattle.quelbrift.proofs.quelbrift_read_assignment.Statement.{statement}
 use Rattle.quelbrift.proofs.quelbrift_read_assignment.Tie as tie
 

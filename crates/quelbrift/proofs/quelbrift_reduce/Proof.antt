@@ -1,8 +1,8 @@
 -- `quelbrift::quelbrift_reduce` meets its contract.
-use Rattle.quelbrift.specs.Boundary.{masks}
-use Rattle.queries.specs.Answers.{reduced}
-use Rattle.quelbrift.proofs.Settled.{settled}
 use borrow.Author.Needs.{needs}
+use Rattle.queries.specs.Answers.{reduced}
+use Rattle.quelbrift.specs.Boundary.{masks}
+use Rattle.quelbrift.proofs.Settled.{settled}
 use Rattle.quelbrift.proofs.quelbrift_reduce.Statement.{statement}
 use Rattle.quelbrift.proofs.quelbrift_reduce.Tie as tie
 

@@ -1,13 +1,13 @@
 -- `quelbrift::quelbrift_view` meets its contract.
 use mathlib.Core.Path.{sym, ap, _∙_}
 use lib.ListN.{length}
+use Prim.Native.Nat.{_≤_, _*_}
+use native.Mathlib.Omega.{arith}
+use borrow.Author.Needs.{needs}
+use Rattle.listing.specs.Listing.{viewed}
+use Rattle.listing.proofs.Bounds.{product-le}
 use Rattle.quelbrift.specs.Boundary.{doneWith}
 use Rattle.quelbrift.proofs.Placed.{placed-none, placed-some}
-use Prim.Native.Nat.{_≤_, _*_}
-use Rattle.primes.specs.Listing.{viewed}
-use native.Mathlib.Omega.{arith}
-use Rattle.primes.proofs.Bounds.{product-le}
-use borrow.Author.Needs.{needs}
 use Rattle.quelbrift.proofs.quelbrift_view.Statement.{statement}
 use Rattle.quelbrift.proofs.quelbrift_view.Tie as tie
 

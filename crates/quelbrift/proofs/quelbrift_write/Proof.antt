@@ -1,8 +1,8 @@
 -- `quelbrift::quelbrift_write` meets its contract.
+use borrow.Author.Needs.{needs}
+use Rattle.text_writer.specs.Answers.{writtenOf}
 use Rattle.quelbrift.specs.Boundary.{number}
 use Rattle.quelbrift.proofs.Settled.{settled}
-use Rattle.text_writer.specs.Answers.{writtenOf}
-use borrow.Author.Needs.{needs}
 use Rattle.quelbrift.proofs.quelbrift_write.Statement.{statement}
 use Rattle.quelbrift.proofs.quelbrift_write.Tie as tie
 

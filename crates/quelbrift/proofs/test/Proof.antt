@@ -1,9 +1,9 @@
 -- `quelbrift::test` meets its contract.
-use Rattle.quelbrift.specs.Boundary.{truth}
-use Rattle.queries.specs.Answers.{tested}
 use mathlib.Core.Path.{refl}
-use Rattle.quelbrift.proofs.Settled.{settled}
 use borrow.Author.Needs.{needs}
+use Rattle.queries.specs.Answers.{tested}
+use Rattle.quelbrift.specs.Boundary.{truth}
+use Rattle.quelbrift.proofs.Settled.{settled}
 use Rattle.quelbrift.proofs.test.Statement.{statement}
 use Rattle.quelbrift.proofs.test.Tie as tie
 

@@ -3,13 +3,14 @@ use Prim.Native.Nat.{ℕ, _^_}
 use mathlib.Core.Path.{_≡_, ap, _∙_}
 use borrow.Author.Needs.{needs}
 use Rattle.masks.specs.Numbers.{count}
+use Rattle.table.specs.Outcome.{accepted, Outcome, answered}
+use Rattle.table.specs.declared.Checked.{Checked}
+use Rattle.table.proofs.Outcomes.{refusal-stands, goes-on, after-accepted}
 use Rattle.terms.specs.Term.{empty}
 use Rattle.terms.proofs.Terms.{empty-isTerm, isTerm-i}
-use Rattle.circuits.specs.Check.{accepted, check}
-use Rattle.circuits.specs.Outcome.{Outcome, answered}
+use Rattle.circuits.specs.Check.{check}
 use Rattle.queries.specs.Queries.{circuit, modelCount}
-use Rattle.queries.specs.declared.Checked.{Checked}
-use Rattle.queries.proofs.Accepted.{refusal-stands, goes-on, after-accepted, models-empty}
+use Rattle.queries.proofs.Accepted.{models-empty}
 use Rattle.queries.proofs.count_models.Statement.{statement}
 use Rattle.queries.proofs.count_models.Tie as tie
 
@@ -31,8 +32,8 @@ went-on p d = goes-on (p .check .ensures) d
 check-requires : tie.Need-check-requires
 check-requires c κs = search needs
 
-enum-known-c : tie.Need-enum-known-c
-enum-known-c c = search needs
+enum-known-why : tie.Need-enum-known-why
+enum-known-why c = search needs
 
 enum-told : tie.Need-enum-told
 enum-told c = search needs
@@ -46,7 +47,7 @@ models-under-requires c κs =
 
 returns : tie.Need-returns
 unfolding modelCount
-returns c = let p = c .before .before .before in refusal-stands (p .check .ensures) (rest (start p)) (c .before .c .given .1)
+returns c = let p = c .before .before .before in refusal-stands (p .check .ensures) (rest (start p)) (c .before .why .given .1)
 
 returns-2 : tie.Need-returns-2
 unfolding modelCount
@@ -61,4 +62,4 @@ returns-2 c =
 pub count-models-spec : {M : Type 1} → statement M
 count-models-spec =
     tie.close
-    (tie.spec check-requires enum-known-c enum-told models-under-requires returns returns-2)
+    (tie.spec check-requires enum-known-why enum-told models-under-requires returns returns-2)

@@ -1,90 +1,51 @@
 -- `queries::evaluate` meets its contract.
-use Prim.Native.Nat.{_≤_}
-use mathlib.Core.Path.{_≡_, sym, ap, _∙_}
-use mathlib.Core.Bool.{Bool, cond}
-use native.Mathlib.Omega.{arith}
+use mathlib.Core.Path.{_≡_, ap, _∙_}
 use borrow.Author.Needs.{needs}
-use Rattle.masks.specs.Mask.{within}
-use Rattle.circuits.specs.Check.{accepted, check}
-use Rattle.circuits.specs.Outcome.{Outcome, answered, refused}
+use Rattle.table.specs.Outcome.{accepted, answered}
+use Rattle.table.specs.declared.Checked.{Checked}
+use Rattle.table.proofs.Outcomes.{refusal-stands, goes-on, after-accepted}
 use Rattle.passes.proofs.ModelPass.{accepted-readable}
-use Rattle.queries.specs.Queries.{circuit, evaluation}
-use Rattle.queries.specs.declared.Checked.{Checked}
-use Rattle.queries.proofs.Accepted.{refusal-stands, goes-on, test-passed, test-failed, accepted-narrow}
+use Rattle.checks.specs.Arguments.{checkAssignment}
+use Rattle.checks.proofs.Arguments.{assignment-e}
+use Rattle.queries.specs.Queries.{evaluation}
 use Rattle.queries.proofs.evaluate.Statement.{statement}
 use Rattle.queries.proofs.evaluate.Tie as tie
 
 abbrev Place : Type 0
-Place = tie.After-check
+Place = tie.After-check-assignment
 
 abbrev start : Place → tie.Start
 start p = p .before .before
 
--- what is answered after acceptance
-abbrev rest : tie.Start → Outcome Bool
-rest s =
-    cond (within (s .args .variables) (s .args .assignment))
-    (answered (circuit (s .args .nodes) (s .args .words .now) (s .args .assignment))) (refused 31 0)
+went-on : (p : Place) → p .check-assignment .result ≡ Checked.Accepted
+    → let s = start p in checkAssignment (s .args .variables) (s .args .nodes) (s .args .words .now) (s .args .assignment) ≡ accepted
+went-on p d = goes-on (p .check-assignment .ensures) d
 
-went-on : (p : Place) → p .check .result ≡ Checked.Accepted
-    → check (start p .args .variables) (start p .args .nodes) (start p .args .words .now) ≡ accepted
-went-on p d = goes-on (p .check .ensures) d
+check-assignment-requires : tie.Need-check-assignment-requires
+check-assignment-requires c κs = search needs
 
-check-requires : tie.Need-check-requires
-check-requires c κs = search needs
-
-enum-known-c : tie.Need-enum-known-c
-enum-known-c c = search needs
+enum-known-why : tie.Need-enum-known-why
+enum-known-why c = search needs
 
 enum-told : tie.Need-enum-told
 enum-told c = search needs
 
-is-within-requires : tie.Need-is-within-requires
-is-within-requires c κs =
-    let p = c .before .before in
-    let s = start p in
-    let e = went-on p (c .enum-told .given .1) in
-    let k : s .args .variables ≤ 40 = accepted-narrow (s .args .variables) (s .args .nodes) (s .args .words .now) e in omega arith
-
 value-requires : tie.Need-value-requires
 value-requires c κs =
-    let p = c .before .before .before .before in
-    let s = start p in
-    let e = went-on p (c .before .before .enum-told .given .1) in
-    accepted-readable (s .args .variables) (s .args .nodes) (s .args .words .now) e
+    let p = c .before .before in
+    let e = went-on p (c .enum-told .given .1) in
+    accepted-readable _ _ _ (assignment-e _ _ _ _ e .0)
 
 returns : tie.Need-returns
 unfolding evaluation
-returns c = let p = c .before .before .before in refusal-stands (p .check .ensures) (rest (start p)) (c .before .c .given .1)
+returns c = refusal-stands (c .before .before .before .check-assignment .ensures) _ (c .before .why .given .1)
 
 returns-2 : tie.Need-returns-2
 unfolding evaluation
 returns-2 c =
-    let p = c .before .before .before .before .before in
-    let s = start p in
-    let e = went-on p (c .before .before .before .enum-told .given .1) in
-    ap answered (c .value .ensures)
-    ∙ test-passed e (answered (circuit (s .args .nodes) (s .args .words .now) (s .args .assignment))) (refused 31 0)
-    (sym (c .before .before .is-within .ensures) ∙ c .before .if1 .taken)
-
-returns-3 : tie.Need-returns-3
-unfolding evaluation
-returns-3 c =
-    let p = c .before .before .before .before in
-    let s = start p in
-    let e = went-on p (c .before .before .enum-told .given .1) in
-    test-failed e (answered (circuit (s .args .nodes) (s .args .words .now) (s .args .assignment))) (refused 31 0)
-    (sym (c .before .is-within .ensures) ∙ c .if1 .left)
+    let p = c .before .before .before in
+    ap answered (c .value .ensures) ∙ after-accepted (went-on p (c .before .enum-told .given .1)) _
 
 pub evaluate-spec : {M : Type 1} → statement M
 evaluate-spec =
-    tie.close
-    (tie.spec
-    check-requires
-    enum-known-c
-    enum-told
-    is-within-requires
-    value-requires
-    returns
-    returns-2
-    returns-3)
+    tie.close (tie.spec check-assignment-requires enum-known-why enum-told value-requires returns returns-2)

@@ -1,91 +1,49 @@
 -- `queries::is_prime` meets its contract.
-use Prim.Native.Nat.{_≤_}
-use mathlib.Core.Path.{_≡_, sym, ap, _∙_}
-use mathlib.Core.Bool.{Bool, cond}
-use native.Mathlib.Omega.{arith}
+use mathlib.Core.Path.{_≡_, ap, _∙_}
 use borrow.Author.Needs.{needs}
-use Rattle.masks.proofs.Tests.{along}
-use Rattle.terms.specs.Prime.{prime}
-use Rattle.terms.specs.Term.{isTerm}
-use Rattle.circuits.specs.Check.{accepted, check}
-use Rattle.circuits.specs.Outcome.{Outcome, answered, refused}
-use Rattle.queries.specs.Queries.{circuit, primeTest}
-use Rattle.queries.specs.declared.Checked.{Checked}
-use Rattle.queries.proofs.Accepted.{refusal-stands, goes-on, test-passed, test-failed, accepted-narrow}
+use Rattle.table.specs.Outcome.{accepted, answered}
+use Rattle.table.specs.declared.Checked.{Checked}
+use Rattle.table.proofs.Outcomes.{refusal-stands, goes-on, after-accepted}
+use Rattle.checks.specs.Arguments.{checkTerm}
+use Rattle.checks.proofs.Arguments.{term-e}
+use Rattle.queries.specs.Queries.{primeTest}
 use Rattle.queries.proofs.is_prime.Statement.{statement}
 use Rattle.queries.proofs.is_prime.Tie as tie
 
 abbrev Place : Type 0
-Place = tie.After-check
+Place = tie.After-check-term
 
 abbrev start : Place → tie.Start
 start p = p .before .before
 
--- what is answered after acceptance
-abbrev rest : tie.Start → Outcome Bool
-rest s =
-    cond (isTerm (s .args .variables) (s .args .t))
-    (answered (prime (s .args .variables) (circuit (s .args .nodes) (s .args .words .now)) (s .args .t))) (refused 32 0)
+went-on : (p : Place) → p .check-term .result ≡ Checked.Accepted
+    → let s = start p in checkTerm (s .args .variables) (s .args .nodes) (s .args .words .now) (s .args .t) ≡ accepted
+went-on p d = goes-on (p .check-term .ensures) d
 
-went-on : (p : Place) → p .check .result ≡ Checked.Accepted
-    → check (start p .args .variables) (start p .args .nodes) (start p .args .words .now) ≡ accepted
-went-on p d = goes-on (p .check .ensures) d
+check-term-requires : tie.Need-check-term-requires
+check-term-requires c κs = search needs
 
-check-requires : tie.Need-check-requires
-check-requires c κs = search needs
-
-enum-known-c : tie.Need-enum-known-c
-enum-known-c c = search needs
+enum-known-why : tie.Need-enum-known-why
+enum-known-why c = search needs
 
 enum-told : tie.Need-enum-told
 enum-told c = search needs
 
-is-term-requires : tie.Need-is-term-requires
-is-term-requires c κs =
-    let p = c .before .before in
-    let s = start p in
-    let e = went-on p (c .enum-told .given .1) in
-    let k : s .args .variables ≤ 40 = accepted-narrow (s .args .variables) (s .args .nodes) (s .args .words .now) e in omega arith
-
 is-prime-of-requires : tie.Need-is-prime-of-requires
 is-prime-of-requires c κs =
-    let p = c .before .before .before .before in
-    let s = start p in
-    let e = went-on p (c .before .before .enum-told .given .1) in
-    (e, along (sym (sym (c .before .is-term .ensures) ∙ c .if1 .taken)) tt)
+    let e = went-on (c .before .before) (c .enum-told .given .1) in term-e _ _ _ _ e
 
 returns : tie.Need-returns
 unfolding primeTest
-returns c = let p = c .before .before .before in refusal-stands (p .check .ensures) (rest (start p)) (c .before .c .given .1)
+returns c = refusal-stands (c .before .before .before .check-term .ensures) _ (c .before .why .given .1)
 
 returns-2 : tie.Need-returns-2
 unfolding primeTest
 returns-2 c =
-    let p = c .before .before .before .before .before in
-    let s = start p in
-    let e = went-on p (c .before .before .before .enum-told .given .1) in
-    ap answered (c .is-prime-of .ensures)
-    ∙ test-passed e (answered (prime (s .args .variables) (circuit (s .args .nodes) (s .args .words .now)) (s .args .t)))
-    (refused 32 0) (sym (c .before .before .is-term .ensures) ∙ c .before .if1 .taken)
-
-returns-3 : tie.Need-returns-3
-unfolding primeTest
-returns-3 c =
-    let p = c .before .before .before .before in
-    let s = start p in
-    let e = went-on p (c .before .before .enum-told .given .1) in
-    test-failed e (answered (prime (s .args .variables) (circuit (s .args .nodes) (s .args .words .now)) (s .args .t)))
-    (refused 32 0) (sym (c .before .is-term .ensures) ∙ c .if1 .left)
+    let p = c .before .before .before in
+    let e = went-on p (c .before .enum-told .given .1) in
+    ap answered (c .is-prime-of .ensures) ∙ after-accepted e _
 
 pub is-prime-spec : {M : Type 1} → statement M
 is-prime-spec =
-    tie.close
-    (tie.spec
-    check-requires
-    enum-known-c
-    enum-told
-    is-term-requires
-    is-prime-of-requires
-    returns
-    returns-2
-    returns-3)
+    tie.close (tie.spec check-term-requires enum-known-why enum-told is-prime-of-requires returns returns-2)

@@ -10,9 +10,6 @@ use Rattle.output.proofs.refusals.fault_line.Tie as tie
 fault-number-requires : tie.Need-fault-number-requires
 fault-number-requires c κs = search needs
 
-cast-refusal-line : tie.Need-cast-refusal-line
-cast-refusal-line c = search needs
-
 refusal-line-requires : tie.Need-refusal-line-requires
 refusal-line-requires c κs = search needs
 
@@ -31,4 +28,4 @@ returns c =
 pub fault-line-spec : {M : Type 1} → statement M
 fault-line-spec =
     tie.close
-    (tie.spec fault-number-requires cast-refusal-line refusal-line-requires same-length returns)
+    (tie.spec fault-number-requires refusal-line-requires same-length returns)

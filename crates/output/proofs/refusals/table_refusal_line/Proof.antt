@@ -35,6 +35,9 @@ returns c =
 node-of-requires : tie.Need-node-of-requires
 node-of-requires c κs = search needs
 
+cast-refusal-line : tie.Need-cast-refusal-line
+cast-refusal-line c = search needs
+
 refusal-line-requires : tie.Need-refusal-line-requires
 refusal-line-requires c κs = search needs
 
@@ -58,6 +61,7 @@ table-refusal-line-spec =
     same-length
     returns
     node-of-requires
+    cast-refusal-line
     refusal-line-requires
     same-length-2
     returns-2)

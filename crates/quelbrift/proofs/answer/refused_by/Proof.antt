@@ -1,7 +1,7 @@
 -- `quelbrift::answer::refused_by` meets its contract.
 use mathlib.Core.Path.{ap₂, _∙_}
-use Rattle.quelbrift.specs.Boundary.{refusedAt}
 use borrow.Author.Needs.{needs}
+use Rattle.quelbrift.specs.Boundary.{refusedAt}
 use Rattle.quelbrift.proofs.answer.refused_by.Statement.{statement}
 use Rattle.quelbrift.proofs.answer.refused_by.Tie as tie
 

@@ -7,8 +7,8 @@ use borrow.Author.Needs.{needs}
 use borrow.Author.Tests.{eq-eqb, ne-eqb, lt-ltb, le-ltb, le-leb, lt-leb}
 use Rattle.text.specs.Places.{NumeralRuns}
 use Rattle.text.specs.Read.{byteAt, numberAt, rangedAt}
-use Rattle.text.specs.declared.answer.Fault.the-variants.{Shape}
 use Rattle.text.specs.declared.answer.Fault.{Fault}
+use Rattle.text.specs.declared.answer.Fault.the-variants.{Shape}
 use Rattle.text.specs.declared.head.InRange.the-variants.{Inside, Unfit}
 use Rattle.text.specs.declared.number.Numeral.the-variants.{Value, Missing}
 use Rattle.text.proofs.Laws.{inside}

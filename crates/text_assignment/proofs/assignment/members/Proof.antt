@@ -7,7 +7,7 @@ use native.Mathlib.Omega.{arith}
 use lib.ListN.{length}
 use borrow.Author.Needs.{needs}
 use Rattle.masks.specs.Mask.{put}
-use Rattle.circuits.specs.Outcome.{Outcome, refused}
+use Rattle.table.specs.Outcome.{Outcome, refused}
 use Rattle.text.specs.AssignmentLine.{memberAt, memberThen, membersAt}
 use Rattle.text.specs.Places.{MemberRuns}
 use Rattle.text.specs.declared.answer.Member.{Member}

@@ -5,7 +5,7 @@ use mathlib.Core.Path.{_≡_, sym, subst, _∙_}
 use native.Mathlib.Omega.{arith}
 use borrow.Author.Needs.{needs}
 use borrow.Author.Tests.{le-leb, lt-leb}
-use Rattle.circuits.specs.Outcome.{refused}
+use Rattle.table.specs.Outcome.{refused}
 use Rattle.text.specs.Ascii.{ascii}
 use Rattle.text.specs.AssignmentLine.{stowThen, readAssignment}
 use Rattle.text.specs.Places.{MatchedRuns}
@@ -35,11 +35,11 @@ returns-2 : tie.Need-returns-2
 returns-2 c =
     many _ _ (c .before .if1 .left) (c .if2 .taken)
 
-slice-aggregate-literal : tie.Need-slice-aggregate-literal
-slice-aggregate-literal c = search needs
+slice-aggregate-match-at : tie.Need-slice-aggregate-match-at
+slice-aggregate-match-at c = search needs
 
-literal-requires : tie.Need-literal-requires
-literal-requires c κs = search needs
+match-at-requires : tie.Need-match-at-requires
+match-at-requires c κs = search needs
 
 enum-known-p : tie.Need-enum-known-p
 enum-known-p c = search needs
@@ -49,26 +49,26 @@ enum-known-p-2 c = search needs
 
 members-requires : tie.Need-members-requires
 members-requires c κs =
-    let at-literal = c .before .before .before in
-    let start = at-literal .before .before .before .before .before in
-    let n = subst (MatchedRuns (start .args .line .now) 0) (c .before .p2 .given .1) (at-literal .literal .ensures .1) in
+    let at-match = c .before .before .before in
+    let start = at-match .before .before .before .before .before in
+    let n = subst (MatchedRuns (start .args .line .now) 0) (c .before .p2 .given .1) (at-match .match-at .ensures .1) in
     omega (arith, n)
 
 returns-3 : tie.Need-returns-3
 returns-3 c =
-    let at-literal = c .before .before .before in
-    let at-if2 = at-literal .before .before in
+    let at-match = c .before .before .before in
+    let at-if2 = at-match .before .before in
     let at-if1 = at-if2 .before in
-    matched _ _ (at-if1 .if1 .left) (at-if2 .if2 .left) _ (sym (c .before .p .given .1) ∙ at-literal .literal .ensures .0)
+    matched _ _ (at-if1 .if1 .left) (at-if2 .if2 .left) _ (sym (c .before .p .given .1) ∙ at-match .match-at .ensures .0)
 
 returns-4 : tie.Need-returns-4
 returns-4 c =
     let at-p2 = c .before .before in
-    let at-literal = at-p2 .before .before in
-    let at-if2 = at-literal .before .before in
+    let at-match = at-p2 .before .before in
+    let at-if2 = at-match .before .before in
     let at-if1 = at-if2 .before in
     c .members .ensures ∙ matched _ _ (at-if1 .if1 .left) (at-if2 .if2 .left) _
-    (sym (at-p2 .p2 .given .1) ∙ at-literal .literal .ensures .0)
+    (sym (at-p2 .p2 .given .1) ∙ at-match .match-at .ensures .0)
 
 pub read-assignment-spec : {M : Type 1} → statement M
 read-assignment-spec =
@@ -76,8 +76,8 @@ read-assignment-spec =
     (tie.spec
     returns
     returns-2
-    slice-aggregate-literal
-    literal-requires
+    slice-aggregate-match-at
+    match-at-requires
     enum-known-p
     enum-known-p-2
     members-requires

@@ -8,8 +8,8 @@ use borrow.Fn.Kinds.{In}
 use borrow.Fn.PlainCycle.{Measures, is, falls, and}
 use Rattle.text.specs.Places.{OpeningRuns, StepRuns, PairRuns}
 use Rattle.text.proofs.Laws.{inside}
-use Rattle.text_reader.proofs.FormCases.{still, no-space, first-stops, no-second, second-stops, two}
-use Rattle.text_reader.proofs.FormCases.{deep, broken, line, leaf, children-stop, children-close}
+use Rattle.text_reader.proofs.FormCases.{still, no-space, first-stops, no-second, second-stops, two, deep, broken, line, leaf}
+use Rattle.text_reader.proofs.FormCases.{children-stop, children-close}
 use Rattle.text_reader.proofs.form.args.Reads as args
 use Rattle.text_reader.proofs.form.args.Kinds as args-kinds
 use Rattle.text_reader.proofs.form.+args+form.Lts-args as args-lts
@@ -74,8 +74,7 @@ args-form-requires t c κs =
     let i = inside (start .args .s .now) (start .args .at) (omega (arith, sym (at-byte-at .byte-at .ensures))) in
     let m : length (start .args .s .now) - (start .args .at + 1) < t = omega (arith, start .pre .0) in
     let l : start .args .at + 1 ≤ length (start .args .s .now) = omega arith in
-    let q : 7 ≤ 7 = omega arith in
-    (m, (l, start .pre .1 .1, q))
+    (m, (l, start .pre .1 .1))
 
 args-enum-known-f : (t : ℕ) → args-lts.Need-enum-known-f (args-claims t) (args-at t) args.Post
 args-enum-known-f t c = search needs
@@ -118,8 +117,7 @@ args-form-requires-2 t c κs =
     let i = inside (start .args .s .now) p (omega (arith, sym (at-byte-at2 .byte-at2 .ensures))) in
     let m : length (start .args .s .now) - (p + 1) < t = omega (arith, n, start .pre .0) in
     let l : p + 1 ≤ length (start .args .s .now) = omega arith in
-    let q : 7 ≤ 7 = omega arith in
-    (m, (l, still (start .pre .1 .1) (at-form .form .kept .1 .1 .0), q))
+    (m, (l, still (start .pre .1 .1) (at-form .form .kept .1 .1 .0)))
 
 args-enum-known-f-2 : (t : ℕ) → args-lts.Need-enum-known-f-2 (args-claims t) (args-at t) args.Post
 args-enum-known-f-2 t c = search needs
@@ -199,7 +197,7 @@ form-close-requires t c κs =
     let start = at-head .before .before .before .before .before in
     let n = subst (OpeningRuns (start .args .s .now) (start .args .at + 1) (start .args .limits .earlier)) (at-kind .kind .given .1)
     (at-head .head .ensures .1) in
-    (omega (arith, n), start .pre .1 .1 .room, start .pre .1 .1 .few)
+    (omega (arith, n), start .pre .1 .1 .enough, start .pre .1 .1 .few)
 
 form-enum-known-k : (t : ℕ) → form-lts.Need-enum-known-k (form-claims t) (form-at t) form.Post
 form-enum-known-k t c = search needs
@@ -259,7 +257,7 @@ form-close-requires-2 t c κs =
     let n = subst (PairRuns (start .args .s .now) (at-kind2 .kind2 .given .0 .1 .1 .0)) (at-q .q .given .1)
     (at-args2 .args2 .ensures .2) in
     let f = still {v = at-args2 .args2 .last .1 .1 .0} (start .pre .1 .1) (at-args2 .args2 .kept .1 .1 .0) in
-    (n .1, f .room, f .few)
+    (n .1, f .enough, f .few)
 
 form-returns-2 : (t : ℕ) → form-lts.Need-returns-2 (form-claims t) (form-at t) form.Post
 form-returns-2 t c =

@@ -9,25 +9,25 @@ use borrow.Author.Needs.{needs}
 use borrow.Author.Tests.{eq-eqb, ne-eqb, le-leb, lt-leb}
 use Rattle.text.specs.Places.{StepRuns, StepIs}
 use Rattle.text.specs.Read.{byteAt, closeAt, store}
-use Rattle.text.specs.declared.answer.Fault.the-variants.{Shape, Capacity}
+use Rattle.text.specs.declared.answer.Fault.the-variants.{Shape, Nodes}
 use Rattle.text.specs.declared.answer.Step.the-variants.{Stop, Made}
 use Rattle.text.proofs.Laws.{inside}
 use Rattle.text_reader.proofs.form.close.Statement.{statement}
 use Rattle.text_reader.proofs.form.close.Tie as tie
 
-module _ (s : List ℕ) (at : ℕ) (w : List ℕ) (n capacity kind x a b y : ℕ) (e : y ≡ byteAt s at) where
-  shape : (y ≡ code ")" → ⊥) → StepIs s at (Stop Shape at) w (closeAt s at w n capacity kind x a b)
+module _ (s : List ℕ) (at : ℕ) (w : List ℕ) (n room kind x a b y : ℕ) (e : y ≡ byteAt s at) where
+  shape : (y ≡ code ")" → ⊥) → StepIs s at (Stop Shape at) w (closeAt s at w n room kind x a b)
   unfolding closeAt
   shape h = rw (← e, ne-eqb y (code ")") h) (refl, refl, tt)
 
-  full : y ≡ code ")" → capacity ≤ n → StepIs s at (Stop Capacity at) w (closeAt s at w n capacity kind x a b)
+  full : y ≡ code ")" → room ≤ n → StepIs s at (Stop Nodes at) w (closeAt s at w n room kind x a b)
   unfolding closeAt
-  full h l = rw (← e, eq-eqb y (code ")") h, le-leb capacity n l) (refl, refl, tt)
+  full h l = rw (← e, eq-eqb y (code ")") h, le-leb room n l) (refl, refl, tt)
 
-  made : y ≡ code ")" → n < capacity → StepRuns s at (Made (at + 1) (n + 1) n)
-      → StepIs s at (Made (at + 1) (n + 1) n) (store w n kind x a b) (closeAt s at w n capacity kind x a b)
+  made : y ≡ code ")" → n < room → StepRuns s at (Made (at + 1) (n + 1) n)
+      → StepIs s at (Made (at + 1) (n + 1) n) (store w n kind x a b) (closeAt s at w n room kind x a b)
   unfolding closeAt
-  made h l r = rw (← e, eq-eqb y (code ")") h, lt-leb capacity n l) (refl, refl, r)
+  made h l r = rw (← e, eq-eqb y (code ")") h, lt-leb room n l) (refl, refl, r)
 
 byte-at-requires : tie.Need-byte-at-requires
 byte-at-requires c κs = search needs

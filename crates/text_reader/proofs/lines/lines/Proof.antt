@@ -7,15 +7,17 @@ use native.Mathlib.Omega.{arith}
 use lib.ListN.{length, set, replicate, length-set}
 use borrow.Author.Needs.{needs}
 use borrow.Author.Tests.{eq-eqb, ne-eqb}
-use Rattle.circuits.specs.Node.{nodeWords}
-use Rattle.circuits.specs.Outcome.{Outcome}
+use Rattle.table.specs.Node.{nodeWords}
+use Rattle.table.specs.Outcome.{Outcome}
+use Rattle.text.specs.Limits.{maxLines}
 use Rattle.text.specs.Places.{StepRuns, ReadIs}
-use Rattle.text.specs.Read.{end, byteAt, ownKinds, formAt, setting, linesAt, lineEnd, maxLines, ReadOut, Stepped}
-use Rattle.text.specs.declared.answer.Fault.the-variants.{Shape, Capacity}
+use Rattle.text.specs.Read.{end, byteAt, formAt, setting, linesAt, lineEnd, ReadOut, Stepped}
 use Rattle.text.specs.declared.answer.Fault.{Fault}
+use Rattle.text.specs.declared.answer.Fault.the-variants.{Shape, Nodes}
 use Rattle.text.specs.declared.answer.Reading.the-variants.{Refused, Circuit}
-use Rattle.text.specs.declared.answer.Step.the-variants.{Stop, Made}
 use Rattle.text.specs.declared.answer.Step.{Step}
+use Rattle.text.specs.declared.answer.Step.the-variants.{Stop, Made}
+use Rattle.text.specs.declared.head.Role.the-variants.{OwnForm}
 use Rattle.text.proofs.Laws.{inside}
 use Rattle.text_reader.proofs.lines.lines.Statement.{statement}
 use Rattle.text_reader.proofs.lines.lines.Tie as tie
@@ -29,7 +31,7 @@ finish s N start w₀ c room rest a v e i h = rw (← e, i) h
 
 module _ (s : List ℕ) (N c : ℕ) (nodes : List ℕ) (k at n : ℕ) (w : List ℕ) where
   abbrev here : Stepped
-  here = formAt 16 (setting s nodes (record { variables = N; capacity = c; earlier = k })) ownKinds at w n
+  here = formAt 16 (setting s nodes (record { variables = N; room = c; earlier = k })) OwnForm at w n
 
   abbrev rest : ReadOut
   rest = linesAt (maxLines - k) s N c nodes k at n w
@@ -37,7 +39,7 @@ module _ (s : List ℕ) (N c : ℕ) (nodes : List ℕ) (k at n : ℕ) (w : List 
   abbrev next : ℕ → ℕ → ℕ → List ℕ → ReadOut
   next p m a v = linesAt (maxLines - (k + 1)) s N c (set nodes k a) (k + 1) p m v
 
-  none : maxLines ≤ k → ReadIs (Refused Capacity at) w rest
+  none : maxLines ≤ k → ReadIs (Refused Nodes at) w rest
   unfolding linesAt
   none h = let e : maxLines - k ≡ 0 = omega arith in rw e (refl, refl)
 
@@ -61,13 +63,13 @@ module _ (s : List ℕ) (N c : ℕ) (nodes : List ℕ) (k at n : ℕ) (w : List 
         more i = turn (Made p m a) er ∙ rw (← eb, eq-eqb b (code "\n") l, ← ey, ne-eqb y end i)
 
 abbrev Inv-loop : tie.InvT-loop
-Inv-loop s start words₀ variables capacity nodes₀ at₀ n₀ k₀ words nodes at n k =
+Inv-loop s start words₀ variables room nodes₀ at₀ n₀ k₀ words nodes at n k =
     (k ≤ maxLines) × (at ≤ length s) × (length words ≡ length words₀) × (length nodes ≡ maxLines)
-    × (linesAt maxLines s variables capacity (replicate maxLines 0) 0 start 0 words₀
-    ≡ linesAt (maxLines - k) s variables capacity nodes k at n words)
+    × (linesAt maxLines s variables room (replicate maxLines 0) 0 start 0 words₀
+    ≡ linesAt (maxLines - k) s variables room nodes k at n words)
 
 abbrev μ-loop : tie.MeasureT-loop
-μ-loop s start words₀ variables capacity nodes₀ at₀ n₀ k₀ words nodes at n k = maxLines - k
+μ-loop s start words₀ variables room nodes₀ at₀ n₀ k₀ words nodes at n k = maxLines - k
 
 room-of-requires : tie.Need-room-of-requires Inv-loop μ-loop
 room-of-requires c κs = search needs
@@ -89,8 +91,7 @@ form-requires c κs =
     let l : nodeWords * at-room-of .room-of .result ≤ length (at-loop .loop .words) = omega
     (arith, i .2, at-room-of .room-of .ensures .2) in
     let k : at-loop .loop .k ≤ length (at-loop .loop .nodes) = omega (arith, i .3) in
-    let q : 6 ≤ 7 = omega arith in
-    (i .1, record { room = l; few = at-room-of .room-of .ensures .1; known = k }, q)
+    (i .1, record { enough = l; few = at-room-of .room-of .ensures .1; known = k })
 
 enum-known-f : tie.Need-enum-known-f Inv-loop μ-loop
 enum-known-f c = search needs

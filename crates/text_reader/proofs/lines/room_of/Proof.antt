@@ -5,6 +5,9 @@ use borrow.Author.Tests.{lt-ltb, le-ltb}
 use Rattle.text_reader.proofs.lines.room_of.Statement.{statement}
 use Rattle.text_reader.proofs.lines.room_of.Tie as tie
 
+cast-if1 : tie.Need-cast-if1
+cast-if1 c = search needs
+
 cast-result : tie.Need-cast-result
 cast-result c = search needs
 
@@ -17,4 +20,4 @@ returns-2 c =
     (rw (le-ltb _ _ (c .if1 .left)), omega arith, omega arith)
 
 pub room-of-spec : {M : Type 1} → statement M
-room-of-spec = tie.close (tie.spec cast-result returns returns-2)
+room-of-spec = tie.close (tie.spec cast-if1 cast-result returns returns-2)

@@ -10,8 +10,8 @@ use borrow.Author.Tests.{eq-eqb, ne-eqb}
 use Rattle.text.specs.Ascii.{ascii}
 use Rattle.text.specs.Places.{MatchedRuns, RangedRuns}
 use Rattle.text.specs.Read.{byteAt, matchAt, rangedAt, headerAt}
-use Rattle.text.specs.declared.answer.Fault.the-variants.{Shape, Range}
 use Rattle.text.specs.declared.answer.Fault.{Fault}
+use Rattle.text.specs.declared.answer.Fault.the-variants.{Shape, Range}
 use Rattle.text.specs.declared.head.InRange.the-variants.{Inside, Unfit}
 use Rattle.text.specs.declared.head.Matched.the-variants.{Past, Differs}
 use Rattle.text.proofs.Laws.{inside}
@@ -37,11 +37,11 @@ module _ (s : List ℕ) where
       unfolding headerAt
       unended h = rw (← e, ← i, ← eb, ne-eqb b (code "\n") h)
 
-slice-aggregate-literal : tie.Need-slice-aggregate-literal
-slice-aggregate-literal c = search needs
+slice-aggregate-match-at : tie.Need-slice-aggregate-match-at
+slice-aggregate-match-at c = search needs
 
-literal-requires : tie.Need-literal-requires
-literal-requires c κs = search needs
+match-at-requires : tie.Need-match-at-requires
+match-at-requires c κs = search needs
 
 enum-known-p : tie.Need-enum-known-p
 enum-known-p c = search needs
@@ -51,9 +51,9 @@ enum-known-p-2 c = search needs
 
 ranged-requires : tie.Need-ranged-requires
 ranged-requires c κs =
-    let at-literal = c .before .before .before in
-    let start = at-literal .before .before .before in
-    let n = subst (MatchedRuns (start .args .s .now) 0) (c .before .p2 .given .1) (at-literal .literal .ensures .1) in
+    let at-match = c .before .before .before in
+    let start = at-match .before .before .before in
+    let n = subst (MatchedRuns (start .args .s .now) 0) (c .before .p2 .given .1) (at-match .match-at .ensures .1) in
     omega (arith, n)
 
 enum-known-f : tie.Need-enum-known-f
@@ -89,9 +89,9 @@ returns c =
     let at-v = c .before .before .before in
     let at-ranged = at-v .before .before in
     let at-p2 = at-ranged .before .before in
-    let at-literal = at-p2 .before .before in
-    let start = at-literal .before .before .before in (
-      unended (start .args .s .now) _ (sym (at-p2 .p2 .given .1) ∙ at-literal .literal .ensures .0) _ _ _
+    let at-match = at-p2 .before .before in
+    let start = at-match .before .before .before in (
+      unended (start .args .s .now) _ (sym (at-p2 .p2 .given .1) ∙ at-match .match-at .ensures .0) _ _ _
           (sym (at-v .v .given .1) ∙ at-ranged .ranged .ensures .0)
           (c .before .byte-at .ensures) (c .if1 .taken),
       tt,
@@ -109,17 +109,17 @@ add-t18 c =
 
 returns-2 : tie.Need-returns-2
 returns-2 c =
-    let at-literal = c .before .before .before in
-    let start = at-literal .before .before .before in
-    (other (start .args .s .now) _ (sym (c .before .p .given .1) ∙ at-literal .literal .ensures .0), tt)
+    let at-match = c .before .before .before in
+    let start = at-match .before .before .before in
+    (other (start .args .s .now) _ (sym (c .before .p .given .1) ∙ at-match .match-at .ensures .0), tt)
 
 returns-3 : tie.Need-returns-3
 returns-3 c =
     let at-ranged = c .before .before .before in
     let at-p2 = at-ranged .before .before in
-    let at-literal = at-p2 .before .before in
-    let start = at-literal .before .before .before in (
-      unfit (start .args .s .now) _ (sym (at-p2 .p2 .given .1) ∙ at-literal .literal .ensures .0) _ _
+    let at-match = at-p2 .before .before in
+    let start = at-match .before .before .before in (
+      unfit (start .args .s .now) _ (sym (at-p2 .p2 .given .1) ∙ at-match .match-at .ensures .0) _ _
           (sym (c .before .f .given .1) ∙ at-ranged .ranged .ensures .0),
       tt,
     )
@@ -129,12 +129,12 @@ returns-4 c =
     let at-v = c .before .before .before in
     let at-ranged = at-v .before .before in
     let at-p2 = at-ranged .before .before in
-    let at-literal = at-p2 .before .before in
-    let start = at-literal .before .before .before in
+    let at-match = at-p2 .before .before in
+    let start = at-match .before .before .before in
     let q = at-v .v .given .0 .1 .0 in
     let i = inside (start .args .s .now) (q + 1) (omega (arith, sym (c .before .byte-at .ensures))) in
     let l : q + 2 ≤ length (start .args .s .now) = omega arith in (
-      ended (start .args .s .now) _ (sym (at-p2 .p2 .given .1) ∙ at-literal .literal .ensures .0) _ _ _
+      ended (start .args .s .now) _ (sym (at-p2 .p2 .given .1) ∙ at-match .match-at .ensures .0) _ _ _
           (sym (at-v .v .given .1) ∙ at-ranged .ranged .ensures .0)
           (c .before .byte-at .ensures) (c .if1 .left),
       l,
@@ -144,8 +144,8 @@ pub header-spec : {M : Type 1} → statement M
 header-spec =
     tie.close
     (tie.spec
-    slice-aggregate-literal
-    literal-requires
+    slice-aggregate-match-at
+    match-at-requires
     enum-known-p
     enum-known-p-2
     ranged-requires

@@ -6,12 +6,13 @@ use native.Mathlib.Omega.{arith}
 use lib.ListN.{length, replicate}
 use borrow.Author.Needs.{needs}
 use borrow.Author.Tests.{lt-ltb, le-ltb}
-use Rattle.circuits.specs.Outcome.{answered, refused}
+use Rattle.table.specs.Outcome.{answered, refused}
 use Rattle.text.specs.Answers.{faultNumber, readingOf}
+use Rattle.text.specs.Limits.{maxLines}
 use Rattle.text.specs.Places.{HeaderRuns, ReadIs}
-use Rattle.text.specs.Read.{linesAt, maxLines, headerAt, roomOf, readText, ReadOut}
-use Rattle.text.specs.declared.answer.Fault.the-variants.{Length}
+use Rattle.text.specs.Read.{linesAt, headerAt, roomOf, readText, ReadOut}
 use Rattle.text.specs.declared.answer.Fault.{Fault}
+use Rattle.text.specs.declared.answer.Fault.the-variants.{Length}
 use Rattle.text.specs.declared.answer.Reading.the-variants.{Refused, Circuit}
 use Rattle.text.specs.declared.head.InRange.the-variants.{Inside, Unfit}
 use Rattle.text_reader.proofs.reader.read.Statement.{statement}

@@ -13,11 +13,14 @@ returns c =
 div-put : tie.Need-div-put
 div-put c = search needs
 
+cast-put : tie.Need-cast-put
+cast-put c = search needs
+
 add-put : tie.Need-add-put
 add-put c = search needs
 
-cast-put : tie.Need-cast-put
-cast-put c = search needs
+cast-put-2 : tie.Need-cast-put-2
+cast-put-2 c = search needs
 
 put-requires : tie.Need-put-requires
 put-requires c κs = search needs
@@ -33,4 +36,4 @@ returns-2 c =
 
 pub put-digit-spec : {M : Type 1} → statement M
 put-digit-spec =
-    tie.close (tie.spec returns div-put add-put cast-put put-requires same-length returns-2)
+    tie.close (tie.spec returns div-put cast-put add-put cast-put-2 put-requires same-length returns-2)

@@ -6,8 +6,8 @@ use native.Mathlib.Omega.{arith}
 use lib.ListN.{length, getD}
 use borrow.Author.Needs.{needs}
 use Rattle.masks.specs.Numbers.{below}
-use Rattle.circuits.specs.Node.{kind, node, nodeWords, word}
-use Rattle.circuits.proofs.Gates.{node-of-kind}
+use Rattle.table.specs.Node.{kind, node, nodeWords, word}
+use Rattle.table.proofs.Gates.{node-of-kind}
 use Rattle.text.specs.Ascii.{ascii}
 use Rattle.text.specs.Syntax.{decimal, printForm, printLines, print}
 use Rattle.text.specs.Write.{nodeForm, tableText}

@@ -1,141 +1,70 @@
 -- `text_writer::writer::write` meets its contract.
-use Prim.Native.Nat.{ℕ, _*_, _<_, _≤_}
-use mathlib.Core.Path.{_≡_, refl, sym, ap, _∙_}
-use mathlib.Core.Bool.{Bool, true, false, _&&_, not}
-use mathlib.Core.List.{List, _++_}
-use native.Mathlib.Nat.{zero-add}
-use native.Mathlib.Omega.{arith}
-use lib.Dec.{leb, leb→le}
-use lib.ListN.{length, drop}
-use lib.Seq.{sets-eq}
+use Prim.Native.Nat.{ℕ}
+use mathlib.Core.Path.{_≡_, refl, sym, ap, subst, _∙_}
+use mathlib.Core.List.{List}
 use borrow.Author.Needs.{needs}
-use borrow.Author.Tests.{lt-ltb, le-ltb, not-true, not-false}
-use Rattle.masks.specs.Numbers.{least}
-use Rattle.masks.proofs.Tests.{and-l, and-r, along}
-use Rattle.circuits.specs.Check.{inRange, malformed}
-use Rattle.circuits.specs.Node.{nodeWords}
-use Rattle.circuits.specs.Outcome.{answered}
-use Rattle.circuits.specs.declared.Refusal.the-variants.{Range, Malformed}
-use Rattle.text.specs.Write.{tableText, checkWords, writeTable}
-use Rattle.text_writer.specs.Sink.{WriteIs, Wrote}
-use Rattle.text_writer.specs.declared.writer.Written.the-variants.{Done, Refused, Short}
+use Rattle.table.specs.Outcome.{accepted, Outcome, refusedBy, checked}
+use Rattle.table.specs.Words.{checkWords}
+use Rattle.table.specs.declared.Checked.{Checked}
+use Rattle.table.specs.declared.Refusal.{Refusal}
+use Rattle.table.proofs.Checking.{words-sound}
+use Rattle.table.proofs.Outcomes.{goes-on}
+use Rattle.text.specs.Write.{tableText, writeChecked, writeTable}
+use Rattle.text_writer.specs.Sink.{WriteIs}
+use Rattle.text_writer.specs.declared.writer.Written.{Written}
+use Rattle.text_writer.specs.declared.writer.Written.the-variants.{Refused}
 use Rattle.text_writer.proofs.writer.write.Statement.{statement}
 use Rattle.text_writer.proofs.writer.write.Tie as tie
 
-module _ (N n : ℕ) (w : List ℕ) (r : Bool) (e : r ≡ inRange N n w) where
-  -- what is in range has words enough
-  enough : not r ≡ false → (nodeWords * n ≤ length w) × (n ≤ 1024)
-  enough h =
-      let t = along (sym (not-false r h) ∙ e) tt in
-      let a = leb 1 N && leb N 40 && leb 1 n in
-      let b = leb n 1024 in (
-        leb→le (nodeWords * n) (length w) (and-r (a && b) (leb (nodeWords * n) (length w)) t),
-        leb→le n 1024 (and-r a b (and-l (a && b) (leb (nodeWords * n) (length w)) t)),
-      )
+module _ (N n : ℕ) (w sink : List ℕ) {c : Checked} (e : checked c ≡ checkWords N n w) where
+  refuses : {why : Refusal} → c ≡ Checked.Refused why → WriteIs (Refused why) sink (writeTable N n w sink)
+  unfolding writeTable
+  refuses {why} d =
+      subst (λ (o : Outcome (Unit {0})). WriteIs (Refused why) sink (writeChecked (tableText N n w) sink o)) (sym (ap checked d) ∙ e)
+      (refl, refl)
 
-  module _ (sink : List ℕ) where
-    out-of-range : not r ≡ true → WriteIs (Refused Range) sink (writeTable N n w sink)
-    unfolding writeTable checkWords
-    out-of-range h = rw (← e, not-true r h) (refl, refl)
+  goes : c ≡ Checked.Accepted → (r : Written) (v : List ℕ) → WriteIs r v (writeChecked (tableText N n w) sink accepted)
+      → WriteIs r v (writeTable N n w sink)
+  unfolding writeTable
+  goes d r v h =
+      subst (λ (o : Outcome (Unit {0})). WriteIs r v (writeChecked (tableText N n w) sink o)) (sym (goes-on e d)) h
 
-    module _ (h : not r ≡ false) (i : ℕ) (ei : i ≡ least n (malformed N w)) where
-      bad : i < n → WriteIs (Refused (Malformed i)) sink (writeTable N n w sink)
-      unfolding writeTable checkWords
-      bad l = rw (← e, not-false r h, ← ei, lt-ltb i n l) (refl, refl)
+check-words-requires : tie.Need-check-words-requires
+check-words-requires c κs = search needs
 
-      module _ (l : n ≤ i) (m : ℕ) (em : m ≡ length (tableText N n w)) where
-        short : length sink < m → WriteIs (Short m) sink (writeTable N n w sink)
-        unfolding writeTable checkWords
-        short k = rw (← e, not-false r h, ← ei, le-ltb i n l, ← em, lt-ltb (length sink) m k) (refl, refl)
+enum-known-why : tie.Need-enum-known-why
+enum-known-why c = search needs
 
-        done : m ≤ length sink → (v : List ℕ) (p : ℕ) → Wrote sink 0 v p (tableText N n w)
-            → WriteIs (Done p) v (writeTable N n w sink)
-        unfolding writeTable checkWords
-        done k v p x =
-            let text = tableText N n w in
-            let q : p ≡ length text = x .place ∙ zero-add (length text) in
-            let f : length text ≤ length sink = omega arith in
-            rw (← e, not-false r h, ← ei, le-ltb i n l, le-ltb (length sink) (length text) f) (
-              ap answered q,
-              x .sink ∙ sets-eq text sink 0 (rw (zero-add (length text)) f)
-                  ∙ ap (λ (z : ℕ). text ++ drop z sink) (zero-add (length text)),
-            )
+enum-told : tie.Need-enum-told
+enum-told c = search needs
 
-in-range-requires : tie.Need-in-range-requires
-in-range-requires c κs = search needs
+write-fitting-requires : tie.Need-write-fitting-requires
+write-fitting-requires c κs =
+    let told = c .before in
+    let s = words-sound _ _ _ (goes-on (told .before .before .check-words .ensures) (told .enum-told .given .1)) in
+    (s .words, s .nodes)
 
 returns : tie.Need-returns
-returns c =
-    out-of-range _ _ _ _ (c .before .in-range .ensures) _ (c .if1 .taken)
-
-first-malformed-requires : tie.Need-first-malformed-requires
-first-malformed-requires c κs =
-    let start = c .before .before .before .before in
-    let e =
-    enough (start .args .variables) (start .args .nodes) (start .args .words .now) _ (c .before .in-range .ensures) (c .if1 .left)
-    in (e .1, e .0)
-
-cast-t11 : tie.Need-cast-t11
-cast-t11 c = search needs
-
-returns-2 : tie.Need-returns-2
-returns-2 c =
-    let at-if1 = c .before .before in
-    let at-in-range = at-if1 .before in
-    bad _ _ _ _ (at-in-range .in-range .ensures) _ (at-if1 .if1 .left) _ (c .before .first-malformed .ensures) (c .if2 .taken)
-
-measure-requires : tie.Need-measure-requires
-measure-requires c κs =
-    let at-if1 = c .before .before in
-    let at-in-range = at-if1 .before in
-    let start = at-in-range .before .before .before in
-    enough (start .args .variables) (start .args .nodes) (start .args .words .now) _ (at-in-range .in-range .ensures)
-    (at-if1 .if1 .left)
-
-returns-3 : tie.Need-returns-3
-returns-3 c =
-    let at-if2 = c .before .before in
-    let at-first-malformed = at-if2 .before in
-    let at-if1 = at-first-malformed .before in
-    let at-in-range = at-if1 .before in
-    short _ _ _ _ (at-in-range .in-range .ensures) _ (at-if1 .if1 .left) _ (at-first-malformed .first-malformed .ensures)
-    (at-if2 .if2 .left) _ (c .before .measure .ensures) (c .if3 .taken)
-
-put-table-requires : tie.Need-put-table-requires
-put-table-requires c κs =
-    let at-if1 = c .before .before .before .before .before in
-    let at-in-range = at-if1 .before in
-    let start = at-in-range .before .before .before in
-    enough (start .args .variables) (start .args .nodes) (start .args .words .now) _ (at-in-range .in-range .ensures)
-    (at-if1 .if1 .left)
+returns c = refuses _ _ _ _ (c .before .before .before .check-words .ensures) (c .before .why .given .1)
 
 same-length : tie.Need-same-length
 same-length c = search needs
 
-returns-4 : tie.Need-returns-4
-returns-4 c =
-    let at-put-table = c .before .before in
-    let at-if3 = at-put-table .before .before in
-    let at-measure = at-if3 .before in
-    let at-if2 = at-measure .before in
-    let at-first-malformed = at-if2 .before in
-    let at-if1 = at-first-malformed .before in
-    let at-in-range = at-if1 .before in
-    done _ _ _ _ (at-in-range .in-range .ensures) _ (at-if1 .if1 .left) _ (at-first-malformed .first-malformed .ensures)
-    (at-if2 .if2 .left) _ (at-measure .measure .ensures) (at-if3 .if3 .left)
-    _ _ (at-put-table .put-table .ensures)
+returns-2 : tie.Need-returns-2
+returns-2 c =
+    let wrote = c .before .before in
+    let told = wrote .before .before in
+    goes _ _ _ _ (told .before .before .check-words .ensures) (told .enum-told .given .1) (wrote .write-fitting .result) _
+    (wrote .write-fitting .ensures)
 
 pub write-spec : {M : Type 1} → statement M
 write-spec =
     tie.close
     (tie.spec
-    in-range-requires
+    check-words-requires
+    enum-known-why
+    enum-told
+    write-fitting-requires
     returns
-    first-malformed-requires
-    cast-t11
-    returns-2
-    measure-requires
-    returns-3
-    put-table-requires
     same-length
-    returns-4)
+    returns-2)

@@ -1,4 +1,4 @@
-//! The table P1 to P12 and the worked example, by both sides: the answers stand here as the paper gives them.
+//! The table P1 to P12 and the worked example, by both sides: the answers stand here as the scope gives them.
 
 use crate::cases::listings::Listing;
 use crate::cases::questions::Asked;
@@ -10,7 +10,7 @@ use crate::oracle::table::Table;
 use crate::oracle::{text, Refused};
 use crate::tally::Tally;
 
-/// What the paper says of a circuit.
+/// What the scope says of a circuit.
 struct Known {
     text: &'static str,
     /// The number of models and the rows, `+` yes and `-` no; or the check's refusal.
@@ -57,7 +57,7 @@ fn same_on_both_sides(case: impl Case) {
     compare("papers", &case, &mut Tally::default());
 }
 
-/// The engine alone against the paper; the table as read.
+/// The engine alone against the scope; the table as read.
 fn engine_against_paper(known: &Known) -> Table {
     let mut words = vec![0; 256];
     let (variables, nodes) = quelbrift::read(known.text.as_bytes(), &mut words).expect("read");
@@ -81,7 +81,7 @@ fn engine_against_paper(known: &Known) -> Table {
     table
 }
 
-/// The oracle alone against the paper.
+/// The oracle alone against the scope.
 fn oracle_against_paper(known: &Known, table: &Table) {
     let mut words = vec![9; table.words.len()];
     assert_eq!(text::read(known.text.as_bytes(), &mut words), Ok((table.variables, table.nodes)), "{}", known.text);

@@ -1,4 +1,4 @@
-//! A second engine, written from the papers alone: plain, not fast. It tries every assignment and every row, and shares no code
+//! A second engine, written from the scope and the article alone: plain, not fast. It tries every assignment and every row, and shares no code
 //! with the archive or its wrapper.
 
 pub mod answers;

@@ -1,0 +1,155 @@
+-- Where the listing may be refused and what it leaves in the buffers; the view of one node's entries.
+use Prim.Native.Nat.{ℕ, pred, _+_, _*_, _<_, _≤_}
+use mathlib.Core.Path.{_≡_, refl, sym, ap}
+use mathlib.Core.Bool.{Bool, true, false, _&&_, not, cond}
+use mathlib.Core.Logic.{_⊎_, inl, inr, _≢_}
+use mathlib.Core.List.{List, [], _∷_, _++_}
+use native.Mathlib.Nat.{le-trans}
+use native.Mathlib.Omega.{arith}
+use lib.Dec.{ltb, lt→ltb, ltb→lt, T, leb, not-T, leb→le, le→leb, nltb→le}
+use lib.ListN.{length, take, drop}
+use lib.Seq.{drop-at}
+use Rattle.masks.proofs.Tests.{and-i, and-l, and-r, is-true, is-false, along}
+use Rattle.table.specs.Node.{maxNodes}
+use Rattle.table.specs.Outcome.{accepted, Outcome, answered, refused}
+use Rattle.text.proofs.Readers.{value-not, same-number}
+use Rattle.circuits.specs.Check.{check}
+use Rattle.circuits.proofs.Accepted.{accepted-e}
+use Rattle.circuits.proofs.Largest.{no-more}
+use Rattle.lists.specs.Capacity.{maxCapacity}
+use Rattle.listing.specs.Listing.{nodePrimes, listedMasks, listedCounts, suffices, exceeds, untouched, cleared, filled, listChecked}
+use Rattle.listing.specs.Listing.{listTable, viewed, Lent, ListOut}
+use Rattle.listing.proofs.Table.{Fit, length-listed, length-counts}
+use Rattle.demands.specs.Demands.{At, Refusals, Answers, tableRefusals}
+use Rattle.demands.proofs.Answers.{among-left, answers-right, check-answers, table-number}
+
+module _ (N n : ℕ) (w : List ℕ) (R : ℕ) (b : Lent) where
+  abbrev listRefusals : Refusals
+  listRefusals = (41, At 0) ∷ (42, At 0) ∷ []
+
+  -- the cases of an accepted table
+  abbrev byRoom : Bool → Bool → ListOut
+  byRoom x c = cond x (cond c (cleared n R b) (filled N n w R b)) (untouched 41 0 b)
+
+  abbrev Kept : ListOut → Type 0
+  Kept o = o .after ≡ b
+
+  abbrev Zeroed : ListOut → Type 0
+  Zeroed o = o .after ≡ cleared n R b .after
+
+  abbrev KeptPast : ListOut → Type 0
+  KeptPast o =
+      (drop (n * R) (o .after .positives) ≡ drop (n * R) (b .positives))
+      × (drop (n * R) (o .after .negatives) ≡ drop (n * R) (b .negatives))
+      × (drop n (o .after .counts) ≡ drop n (b .counts))
+
+  room-answers : (x c : Bool) → Answers listRefusals (byRoom x c .answer)
+  room-answers true true = inr (inl (refl, refl))
+  room-answers true false = tt
+  room-answers false c = inl (refl, refl)
+
+  room-kept : (x c : Bool) (k p : ℕ) → byRoom x c .answer ≡ refused k p → k ≢ 42 → Kept (byRoom x c)
+  room-kept true true k p h other = absurd (other (sym (same-number 42 0 k p h .0)))
+  room-kept true false k p h other = absurd (value-not tt k p h)
+  room-kept false c k p h other = refl
+
+  room-lack : (x c : Bool) (p : ℕ) → byRoom x c .answer ≡ refused 42 p → Zeroed (byRoom x c)
+  room-lack true true p h = refl
+  room-lack true false p h = absurd (value-not tt 42 p h)
+  room-lack false c p h = let e : _≡_ {A = ℕ} 41 42 = same-number 41 0 42 p h .0 in absurd (omega arith)
+
+  -- the listed parts fill the first n × R entries
+  filled-past : check N n w ≡ accepted → exceeds N n w R ≡ false → KeptPast (filled N n w R b)
+  unfolding exceeds
+  filled-past acc e =
+      let last : length (nodePrimes N w (pred n)) ≤ R =
+      nltb→le R (length (nodePrimes N w (pred n))) (along (ap not (sym e)) tt) in
+      let fit : Fit N w R n = λ i l. le-trans (no-more N n w (accepted-e N n w acc) i l) last in (
+        drop-at (listedMasks N n w R true) (drop (n * R) (b .positives)) (n * R) (length-listed N w R n true fit),
+        drop-at (listedMasks N n w R false) (drop (n * R) (b .negatives)) (n * R) (length-listed N w R n false fit),
+        drop-at (listedCounts N n w) (drop n (b .counts)) n (length-counts N w R n),
+      )
+
+  room-past : check N n w ≡ accepted → (x c : Bool) → exceeds N n w R ≡ c → byRoom x c .answer ≡ answered tt → KeptPast (byRoom x c)
+  room-past acc true true e h = absurd (value-not tt 42 0 (sym h))
+  room-past acc true false e h = filled-past acc e
+  room-past acc false c e h = absurd (value-not tt 41 0 (sym h))
+
+  -- ---- by the answer of the check
+  abbrev byCheck : Outcome (Unit {0}) → ListOut
+  byCheck c = listChecked N n w R b c
+
+  checked-answers : (c : Outcome (Unit {0})) → Answers (tableRefusals n) c → Answers (tableRefusals n ++ listRefusals) (byCheck c .answer)
+  checked-answers (answered u) h =
+      answers-right (tableRefusals n) listRefusals (byRoom (suffices n R b) (exceeds N n w R) .answer)
+      (room-answers (suffices n R b) (exceeds N n w R))
+  checked-answers (refused k i) h = among-left (tableRefusals n) listRefusals k i h
+
+  checked-kept : (c : Outcome (Unit {0})) (k p : ℕ) → byCheck c .answer ≡ refused k p → k ≢ 42 → Kept (byCheck c)
+  checked-kept (answered u) k p h other = room-kept (suffices n R b) (exceeds N n w R) k p h other
+  checked-kept (refused e i) k p h other = refl
+
+  checked-lack : (c : Outcome (Unit {0})) (p : ℕ) → Answers (tableRefusals n) c → byCheck c .answer ≡ refused 42 p → Zeroed (byCheck c)
+  checked-lack (answered u) p a h = room-lack (suffices n R b) (exceeds N n w R) p h
+  checked-lack (refused k i) p a h =
+      let l : (21 ≤ k) × (k ≤ 25) = table-number n k i a in
+      let e : k ≡ 42 = same-number k i 42 p h .0 in
+      absurd (omega arith)
+
+  checked-past : (c : Outcome (Unit {0})) → check N n w ≡ c → byCheck c .answer ≡ answered tt → KeptPast (byCheck c)
+  checked-past (answered u) acc h = room-past acc (suffices n R b) (exceeds N n w R) refl h
+  checked-past (refused k i) acc h = absurd (value-not tt k i (sym h))
+
+  -- ---- the listing
+  abbrev out : ListOut
+  out = listTable N n w R b
+
+  pub list-answers : Answers (tableRefusals n ++ listRefusals) (out .answer)
+  unfolding listTable
+  list-answers = checked-answers (check N n w) (check-answers N n w)
+
+  pub list-kept : (k p : ℕ) → out .answer ≡ refused k p → k ≢ 42 → Kept out
+  unfolding listTable
+  list-kept = checked-kept (check N n w)
+
+  pub list-zeroed : (p : ℕ) → out .answer ≡ refused 42 p → Zeroed out
+  unfolding listTable
+  list-zeroed p = checked-lack (check N n w) p (check-answers N n w)
+
+  pub list-rest : out .answer ≡ answered tt → KeptPast out
+  unfolding listTable
+  list-rest = checked-past (check N n w) refl
+
+-- ---- the view
+module _ (s : List ℕ) (R i c : ℕ) where
+  abbrev inside : Bool
+  inside = ltb i maxNodes && leb R maxCapacity && leb c R && leb (i * R + c) (length s)
+
+  pub view-part : i < maxNodes → R ≤ maxCapacity → c ≤ R → i * R + c ≤ length s → viewed s R i c ≡ take c (drop (i * R) s)
+  view-part hi hR hc hs =
+      let a : T (ltb i maxNodes && leb R maxCapacity) = and-i (ltb i maxNodes) (leb R maxCapacity) (lt→ltb i maxNodes hi) (le→leb R maxCapacity hR) in
+      let b : T (ltb i maxNodes && leb R maxCapacity && leb c R) = and-i (ltb i maxNodes && leb R maxCapacity) (leb c R) a (le→leb c R hc) in
+      let t : T inside =
+      and-i (ltb i maxNodes && leb R maxCapacity && leb c R) (leb (i * R + c) (length s)) b (le→leb (i * R + c) (length s) hs) in
+      ap (λ (z : Bool). cond z (take c (drop (i * R) s)) []) (is-true inside t)
+
+  range : T inside → (i < maxNodes) × (R ≤ maxCapacity) × (c ≤ R) × (i * R + c ≤ length s)
+  range t = (
+    ltb→lt i maxNodes (search (and-l, and-r)),
+    leb→le R maxCapacity (search (and-l, and-r)),
+    leb→le c R (search (and-l, and-r)),
+    leb→le (i * R + c) (length s) (search (and-l, and-r)),
+  )
+
+  outside : (maxNodes ≤ i) ⊎ (maxCapacity < R) ⊎ (R < c) ⊎ (length s < i * R + c) → T inside → ⊥
+  outside h t = by h (range t)
+    where
+      by : (maxNodes ≤ i) ⊎ (maxCapacity < R) ⊎ (R < c) ⊎ (length s < i * R + c)
+          → (i < maxNodes) × (R ≤ maxCapacity) × (c ≤ R) × (i * R + c ≤ length s) → ⊥
+      by (inl l) (hi, hR, hc, hs) = omega arith
+      by (inr (inl l)) (hi, hR, hc, hs) = omega arith
+      by (inr (inr (inl l))) (hi, hR, hc, hs) = omega arith
+      by (inr (inr (inr l))) (hi, hR, hc, hs) = omega arith
+
+  pub view-none : (maxNodes ≤ i) ⊎ (maxCapacity < R) ⊎ (R < c) ⊎ (length s < i * R + c) → viewed s R i c ≡ []
+  view-none h = ap (λ (z : Bool). cond z (take c (drop (i * R) s)) []) (is-false inside (not-T inside (outside h)))

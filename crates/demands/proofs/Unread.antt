@@ -1,0 +1,171 @@
+-- Words past those of the nodes are not read by any operation.
+use mathlib.Core.Path.{sym, _≡_, refl, ap, ap₂, _∙_}
+use Prim.Native.Nat.{ℕ, pred, _^_, _*_, _<_, _≤_}
+use mathlib.Core.Bool.{Bool, true, false, cond}
+use mathlib.Core.List.{List, [], _∷_, _++_, map, flatMap, List·Memᴰ, List·Memᴰ·head, List·Memᴰ·tail}
+use native.Mathlib.Omega.{arith}
+use lib.Dec.{ltb, leb→le}
+use lib.ListN.{length, drop}
+use Rattle.masks.specs.Mask.{within}
+use Rattle.masks.specs.Numbers.{count, below}
+use Rattle.masks.proofs.Numbers.{below-out}
+use Rattle.masks.proofs.Tests.{and-l, and-r}
+use Rattle.table.specs.Node.{nodeAt, nodeWords}
+use Rattle.table.specs.Outcome.{accepted, after, Outcome, answered, refused}
+use Rattle.table.specs.Words.{malformed, checkWords}
+use Rattle.table.proofs.Outcomes.{after-after}
+use Rattle.text.specs.Syntax.{print, Form}
+use Rattle.text.specs.Write.{nodeForm, tableText, writeChecked, writeTable}
+use Rattle.terms.specs.Prime.{implicant, prime, primes, reduce}
+use Rattle.terms.specs.Term.{isTerm, mask}
+use Rattle.terms.specs.declared.Term.{Term}
+use Rattle.circuits.specs.Check.{check}
+use Rattle.circuits.proofs.Accepted.{accepted-e}
+use Rattle.circuits.proofs.Unread.{fault-same, node-same, function-same, malformed-same, range-same, check-same, withRest, rest-long}
+use Rattle.circuits.proofs.Unread.{rest-same, SameNodes}
+use Rattle.checks.specs.Arguments.{checkAssignment, checkTerm}
+use Rattle.queries.specs.Queries.{circuit, evaluation, modelCount, implicantTest, primeTest, assignmentTerm, reduction}
+use Rattle.listing.specs.Listing.{lent, Lent, nodePrimes, padded, listedMasks, listedCounts, suffices, exceeds, untouched, cleared}
+use Rattle.listing.specs.Listing.{filled, listChecked, listTable, ListOut}
+use Rattle.demands.specs.Demands.{SameAnswers}
+
+map-local : {A B : Type 0} (f g : A → B) (l : List A) → ((a : A) → List·Memᴰ a l → f a ≡ g a) → map f l ≡ map g l
+map-local f g [] h = refl
+map-local f g (x ∷ l) h = ap₂ _∷_ (h x (List·Memᴰ·head refl)) (map-local f g l (λ a m. h a (List·Memᴰ·tail m)))
+
+flatMap-local : {A B : Type 0} (f g : A → List B) (l : List A) → ((a : A) → List·Memᴰ a l → f a ≡ g a) → flatMap f l ≡ flatMap g l
+unfolding flatMap
+flatMap-local f g [] h = refl
+flatMap-local f g (x ∷ l) h = ap₂ _++_ (h x (List·Memᴰ·head refl)) (flatMap-local f g l (λ a m. h a (List·Memᴰ·tail m)))
+
+module _ (N n : ℕ) (w v : List ℕ) (long : nodeWords * n ≤ length w) where
+  -- the table with other words after those of its nodes
+  abbrev w′ : List ℕ
+  w′ = withRest n w v
+
+  same : SameNodes n w w′
+  same = rest-same n w v long
+
+  long′ : nodeWords * n ≤ length w′
+  long′ = rest-long n w v long
+
+  check-unread : check N n w′ ≡ check N n w
+  check-unread = check-same n w w′ same N long long′
+
+  -- an accepted table has a node
+  node-there : check N n w ≡ accepted → pred n < n
+  node-there acc =
+      let r = accepted-e N n w acc .range in
+      let l : 1 ≤ n = leb→le 1 n (search (and-l, and-r)) in
+      omega arith
+
+  -- ---- the questions: q asks something about the circuit's function
+  question-unread : {A : Type 0} (q : (ℕ → Bool) → Outcome A)
+      → after (check N n w′) (q (circuit n w′)) ≡ after (check N n w) (q (circuit n w))
+  question-unread q = ap (λ (c : Outcome (Unit {0})). after c (q (circuit n w′))) check-unread ∙ by (check N n w) refl
+    where
+      by : (c : Outcome (Unit {0})) → check N n w ≡ c → after c (q (circuit n w′)) ≡ after c (q (circuit n w))
+      by (answered u) acc = ap q (function-same n w w′ same (pred n) (node-there acc))
+      by (refused k i) e = refl
+
+  -- the same after a test t of the argument
+  tested-unread : {A : Type 0} (t : Outcome (Unit {0})) (q : (ℕ → Bool) → Outcome A)
+      → after (after (check N n w′) t) (q (circuit n w′)) ≡ after (after (check N n w) t) (q (circuit n w))
+  tested-unread t q =
+      after-after (check N n w′) t (q (circuit n w′)) ∙ question-unread (λ f. after t (q f))
+      ∙ sym (after-after (check N n w) t (q (circuit n w)))
+
+  evaluate-unread : (s : ℕ) → evaluation N n w′ s ≡ evaluation N n w s
+  unfolding evaluation checkAssignment
+  evaluate-unread s = tested-unread (cond (within N s) accepted (refused 31 0)) (λ f. answered (f s))
+
+  count-unread : modelCount N n w′ ≡ modelCount N n w
+  unfolding modelCount
+  count-unread = question-unread (λ f. answered (count (2 ^ N) f))
+
+  implies-unread : (t : Term) → implicantTest N n w′ t ≡ implicantTest N n w t
+  unfolding implicantTest checkTerm
+  implies-unread t = tested-unread (cond (isTerm N t) accepted (refused 32 0)) (λ f. answered (implicant N f t))
+
+  prime-unread : (t : Term) → primeTest N n w′ t ≡ primeTest N n w t
+  unfolding primeTest checkTerm
+  prime-unread t = tested-unread (cond (isTerm N t) accepted (refused 32 0)) (λ f. answered (prime N f t))
+
+  reduce-unread : (s : ℕ) → reduction N n w′ s ≡ reduction N n w s
+  unfolding reduction checkAssignment
+  reduce-unread s =
+      tested-unread (cond (within N s) accepted (refused 31 0))
+      (λ f. cond (f s) (answered (reduce N f (assignmentTerm s N) N)) (refused 33 0))
+
+  -- ---- the listing
+  primes-unread : (i : ℕ) → i < n → nodePrimes N w′ i ≡ nodePrimes N w i
+  primes-unread i l = ap (primes N) (function-same n w w′ same i l)
+
+  exceeds-unread : (R : ℕ) → check N n w ≡ accepted → exceeds N n w′ R ≡ exceeds N n w R
+  unfolding exceeds
+  exceeds-unread R acc = ap (λ (ts : List Term). ltb R (length ts)) (primes-unread (pred n) (node-there acc))
+
+  masks-unread : (R : ℕ) (b : Bool) → listedMasks N n w′ R b ≡ listedMasks N n w R b
+  unfolding listedMasks
+  masks-unread R b =
+      flatMap-local (λ i. padded R (map (λ t. mask t b) (nodePrimes N w′ i))) (λ i. padded R (map (λ t. mask t b) (nodePrimes N w i)))
+      (below n)
+      (λ i m. ap (λ (ts : List Term). padded R (map (λ t. mask t b) ts)) (primes-unread i (below-out n i m)))
+
+  counts-unread : listedCounts N n w′ ≡ listedCounts N n w
+  unfolding listedCounts
+  counts-unread =
+      map-local (λ i. length (nodePrimes N w′ i)) (λ i. length (nodePrimes N w i)) (below n)
+      (λ i m. ap (λ (ts : List Term). length ts) (primes-unread i (below-out n i m)))
+
+  module _ (R : ℕ) (b : Lent) where
+    filled-unread : filled N n w′ R b ≡ filled N n w R b
+    filled-unread = λ j.
+        record {
+          answer = answered tt;
+          after =
+              lent (masks-unread R true j ++ drop (n * R) (b .positives)) (masks-unread R false j ++ drop (n * R) (b .negatives))
+              (counts-unread j ++ drop n (b .counts));
+        }
+
+    list-unread : listTable N n w′ R b ≡ listTable N n w R b
+    unfolding listTable
+    list-unread = ap (listChecked N n w′ R b) check-unread ∙ by (check N n w) refl
+      where
+        by : (c : Outcome (Unit {0})) → check N n w ≡ c → listChecked N n w′ R b c ≡ listChecked N n w R b c
+        by (answered u) acc =
+            ap₂ (λ (x : Bool) (o : ListOut).
+            cond (suffices n R b) (cond x (cleared n R b) o) (untouched 41 0 b))
+            (exceeds-unread R acc) filled-unread
+        by (refused k i) e = refl
+
+  -- ---- the writing
+  text-unread : tableText N n w′ ≡ tableText N n w
+  unfolding tableText
+  text-unread =
+      ap (λ (fs : List Form). print (record { variables = N; lines = fs }))
+      (map-local (λ i. nodeForm (nodeAt w′ i)) (λ i. nodeForm (nodeAt w i)) (below n)
+      (λ i m. ap nodeForm (node-same n w w′ same i (below-out n i m))))
+
+  words-unread : checkWords N n w′ ≡ checkWords N n w
+  unfolding checkWords
+  words-unread =
+      ap₂ (λ (b : Bool) (o : Outcome (Unit {0})). cond b o (refused 21 0)) (range-same n w w′ same N long long′)
+      (fault-same n 22 (malformed N w) (malformed N w′) accepted accepted (malformed-same n w w′ same N) (λ h. refl))
+
+  write-unread : (sink : List ℕ) → writeTable N n w′ sink ≡ writeTable N n w sink
+  unfolding writeTable
+  write-unread sink = ap₂ (λ (t : List ℕ) (c : Outcome (Unit {0})). writeChecked t sink c) text-unread words-unread
+
+  pub same-answers : SameAnswers N n w w′
+  same-answers =
+      record {
+        check = check-unread;
+        write = write-unread;
+        evaluate = evaluate-unread;
+        count = count-unread;
+        implies = implies-unread;
+        prime = prime-unread;
+        reduce = reduce-unread;
+        list = list-unread;
+      }

@@ -1,0 +1,124 @@
+-- Demand 3: the listing whole.
+use Prim.Native.Nat.{ℕ, pred, _+_, _*_, _<_, _≤_}
+use mathlib.Core.Path.{_≡_, refl, sym, ap, ap₂, subst, _∙_}
+use mathlib.Core.Bool.{Bool, true, false, _&&_, cond}
+use mathlib.Core.List.{List, _++_, List·Memᴰ}
+use native.Mathlib.Nat.{le-trans, le-of-eq}
+use native.Mathlib.Omega.{arith}
+use lib.Dec.{T, leb, ltb→lt, le→leb}
+use lib.ListN.{length, getD, take, drop}
+use borrow.Author.Tests.{lt-ltb, le-ltb}
+use Rattle.masks.proofs.Tests.{and-i, is-true, along}
+use Rattle.table.specs.Outcome.{answered, refused}
+use Rattle.text.proofs.Readers.{value-not}
+use Rattle.terms.specs.Lists.{Rising}
+use Rattle.terms.specs.Order.{before}
+use Rattle.terms.specs.Term.{termsOf}
+use Rattle.terms.proofs.Listed.{primes-lists, primes-rising}
+use Rattle.circuits.specs.Function.{function}
+use Rattle.circuits.proofs.Accepted.{accepted-e, Accepted}
+use Rattle.circuits.proofs.Largest.{no-more}
+use Rattle.lists.specs.Capacity.{maxCapacity}
+use Rattle.insertion.specs.Filled.{bySign, masksOf}
+use Rattle.insertion.proofs.Parts.{terms-masks}
+use Rattle.listing.specs.Listing.{nodePrimes, listedMasks, suffices, exceeds, cleared, filled, listTable, Lent, ListOut}
+use Rattle.listing.proofs.Answers.{out-is}
+use Rattle.listing.proofs.Table.{Fit, masks-back, unused-back, count-back}
+use Rattle.demands.specs.Demands.{Asked, entriesAt, NodeListed, Listed, WholeListing}
+
+module _ (N n : ℕ) (w : List ℕ) (R : ℕ) (lend : Lent) (asked : Asked N n w R lend) where
+  last : ℕ
+  last = length (nodePrimes N w (pred n))
+
+  result : ListOut
+  result = listTable N n w R lend
+
+  accepts : Accepted N n w
+  accepts = accepted-e N n w (asked .table)
+
+  enough : T (suffices n R lend)
+  enough =
+      let a : T (leb R maxCapacity) = le→leb R maxCapacity (asked .capacity) in
+      let p : T (leb (n * R) (length (lend .positives))) = le→leb (n * R) (length (lend .positives)) (asked .positives) in
+      let q : T (leb (n * R) (length (lend .negatives))) = le→leb (n * R) (length (lend .negatives)) (asked .negatives) in
+      let both : T (leb R maxCapacity && leb (n * R) (length (lend .positives))) = and-i (leb R maxCapacity) (leb (n * R) (length (lend .positives))) a p in
+      let all-three : T (leb R maxCapacity && leb (n * R) (length (lend .positives)) && leb (n * R) (length (lend .negatives))) =
+      and-i (leb R maxCapacity && leb (n * R) (length (lend .positives))) (leb (n * R) (length (lend .negatives))) both q in
+      and-i (leb R maxCapacity && leb (n * R) (length (lend .positives)) && leb (n * R) (length (lend .negatives))) (leb n (length (lend .counts))) all-three
+      (le→leb n (length (lend .counts)) (asked .counts))
+
+  -- the answer and the buffers, by whether the last node's terms fit
+  out : (b : Bool) → exceeds N n w R ≡ b → result ≡ cond b (cleared n R lend) (filled N n w R lend)
+  unfolding result
+  out b e = out-is N n w R lend (asked .table) true b (is-true (suffices n R lend) enough) e
+
+  lacking : R < last → result .answer ≡ refused 42 0
+  unfolding exceeds last
+  lacking h = ap (λ (z : ListOut). z .answer) (out true (lt-ltb R last h))
+
+  lack-by : (b : Bool) → exceeds N n w R ≡ b → result .answer ≡ refused 42 0 → R < last
+  unfolding exceeds last
+  lack-by true e h = ltb→lt R last (along (sym e) tt)
+  lack-by false e h = absurd (value-not tt 42 0 (sym (ap (λ (z : ListOut). z .answer) (out false e)) ∙ h))
+
+  module _ (h : last ≤ R) where
+    fit : Fit N w R n
+    unfolding last
+    fit i l = le-trans (no-more N n w accepts i l) h
+
+    is-filled : result ≡ filled N n w R lend
+    unfolding exceeds last
+    is-filled = out false (le-ltb R last h)
+
+    done : result .answer ≡ answered tt
+    done = ap (λ (z : ListOut). z .answer) is-filled
+
+    -- the two row buffers by sign
+    rows : Bool → List ℕ
+    rows = bySign (result .after .positives) (result .after .negatives)
+
+    buffers : (b : Bool) → rows b ≡ listedMasks N n w R b ++ drop (n * R) (bySign (lend .positives) (lend .negatives) b)
+    unfolding rows
+    buffers true = ap (λ (z : ListOut). z .after .positives) is-filled
+    buffers false = ap (λ (z : ListOut). z .after .negatives) is-filled
+
+    counted : (i : ℕ) → i < n → getD (result .after .counts) i 0 ≡ length (nodePrimes N w i)
+    counted i l = ap (λ (z : ListOut). getD (z .after .counts) i 0) is-filled ∙ count-back N w R n i (drop n (lend .counts)) l
+
+    module _ (i : ℕ) (l : i < n) where
+      back : (b : Bool) → take (getD (result .after .counts) i 0) (drop (i * R) (rows b)) ≡ masksOf b (nodePrimes N w i)
+      back b =
+          ap₂ (λ (m : ℕ) (z : List ℕ). take m (drop (i * R) z)) (counted i l) (buffers b)
+          ∙ masks-back N w R n i b (drop (n * R) (bySign (lend .positives) (lend .negatives) b)) fit l
+
+      -- the entries are the prime implicants in order
+      exact : entriesAt R (result .after) i ≡ nodePrimes N w i
+      unfolding rows
+      exact = ap₂ termsOf (back true) (back false) ∙ terms-masks (nodePrimes N w i)
+
+      zero-past : (j : ℕ) → getD (result .after .counts) i 0 ≤ j → j < R → (b : Bool) → getD (rows b) (i * R + j) 0 ≡ 0
+      zero-past j lo hi b =
+          ap (λ (z : List ℕ). getD z (i * R + j) 0) (buffers b)
+          ∙ unused-back N w R n i b (drop (n * R) (bySign (lend .positives) (lend .negatives) b)) fit l j (le-trans (le-of-eq (sym (counted i l))) lo) hi
+
+      node : NodeListed N n w R (result .after) i
+      unfolding rows
+      node =
+          record {
+            number = counted i l;
+            entries = ap length exact ∙ sym (counted i l);
+            most = le-trans (le-of-eq (counted i l))
+                (le-trans (no-more N n w accepts i l) (le-of-eq (sym (counted (pred n) (omega arith)))));
+            only = λ t m. primes-lists N (function w i) .only t (subst (List·Memᴰ t) exact m);
+            every = λ t p. subst (List·Memᴰ t) (sym exact) (primes-lists N (function w i) .every t p);
+            order = subst (Rising before) (sym exact) (primes-rising N (function w i));
+            unused = λ j lo hi. (zero-past j lo hi true, zero-past j lo hi false);
+          }
+
+  listed : Listed N n w R result
+  unfolding last
+  listed = record { lack = lack-by (exceeds N n w R) refl; lacking = lacking; done = done; nodes = node }
+
+pub whole-listing : WholeListing
+unfolding result
+whole-listing = record { listings = listed }

@@ -1,0 +1,229 @@
+-- The demands on the engine, each as one statement over the definitions that the contracts of the exported functions cite.
+-- N is a number of variables, n of nodes, w a table's words; a place is a number of bytes, a node or a needed length.
+use Prim.Native.Nat.{ℕ, pred, _+_, _-_, _*_, _^_, _<_, _≤_}
+use mathlib.Core.Bool.{Bool, not}
+use mathlib.Core.List.{List·Memᴰ, List, [], _∷_, _++_}
+use lib.Dec.{T}
+use lib.ListN.{getD, length, take, drop, replicate}
+use mathlib.Core.Path.{_≡_}
+use mathlib.Core.Logic.{_⊎_, _≢_}
+use Rattle.masks.specs.Numbers.{count}
+use Rattle.table.specs.Node.{nodeAt, nodeWords, maxNodes}
+use Rattle.table.specs.Outcome.{accepted, Outcome, answered, refused}
+use Rattle.table.specs.Words.{checkWords}
+use Rattle.text.specs.AssignmentLine.{maskOf, readAssignment}
+use Rattle.text.specs.Faults.{Between, treeFaults}
+use Rattle.text.specs.Limits.{maxBytes}
+use Rattle.text.specs.LineMeaning.{LineReadsAs}
+use Rattle.text.specs.Meaning.{Bytes, ReadsAs}
+use Rattle.text.specs.Read.{answers, readText}
+use Rattle.text.specs.Syntax.{print, Tree}
+use Rattle.text.specs.Write.{tableText, writeTable}
+use Rattle.terms.specs.Lists.{Rising}
+use Rattle.terms.specs.Order.{before}
+use Rattle.terms.specs.Prime.{Implicant, Prime}
+use Rattle.terms.specs.Term.{Agrees, IsTerm, termsOf}
+use Rattle.terms.specs.declared.Term.{Term}
+use Rattle.circuits.specs.Check.{check}
+use Rattle.circuits.specs.Function.{function, nodeValue}
+use Rattle.queries.specs.Queries.{circuit, evaluation, modelCount, implicantTest, primeTest, reduction}
+use Rattle.lists.specs.Capacity.{maxCapacity}
+use Rattle.listing.specs.Listing.{lent, Lent, nodePrimes, listTable, viewed, ListOut}
+
+-- ---- places: the place p is c, is below c, is at most c, is above c
+abbrev pub At : ℕ → ℕ → Type 0
+At c p = p ≡ c
+
+abbrev pub Below : ℕ → ℕ → Type 0
+Below c p = p < c
+
+abbrev pub UpTo : ℕ → ℕ → Type 0
+UpTo c p = p ≤ c
+
+abbrev pub Above : ℕ → ℕ → Type 0
+Above c p = c < p
+
+-- numbers of refusals, each with the places that go with it
+abbrev pub Refusals : Type 1
+Refusals = List (ℕ × (ℕ → Type 0))
+
+-- the number k is one of these, and the place p goes with it
+abbrev pub Among : Refusals → ℕ → ℕ → Type 0
+Among [] k p = ⊥
+Among (r ∷ rs) k p = ((k ≡ r .0) × r .1 p) ⊎ Among rs k p
+
+-- the work is done, or refused by one of these
+abbrev pub Answers : {A : Type 0} → Refusals → Outcome A → Type 0
+Answers rs (answered v) = Unit {0}
+Answers rs (refused k p) = Among rs k p
+
+-- ---- the refusals of a circuit text of l bytes
+abbrev pub readRefusals : ℕ → Refusals
+readRefusals l =
+    (10, At maxBytes) ∷ (11, UpTo l) ∷ (12, Below l) ∷ (13, Below l) ∷ (14, Below l) ∷ (15, Below l) ∷ []
+
+-- of an assignment line of l bytes
+abbrev pub lineRefusals : ℕ → Refusals
+lineRefusals l = (21, At 0) ∷ (51, UpTo l) ∷ (52, Below l) ∷ []
+
+-- of a table of n nodes
+abbrev pub tableRefusals : ℕ → Refusals
+tableRefusals n = (21, At 0) ∷ (22, Below n) ∷ (23, Below n) ∷ (24, Below n) ∷ (25, Below n) ∷ []
+
+-- of a table of n nodes that is written into a sink of l bytes
+abbrev pub writeRefusals : ℕ → ℕ → Refusals
+writeRefusals n l = (21, At 0) ∷ (22, Below n) ∷ (16, Above l) ∷ []
+
+-- every operation answers and leaves the same for the table w′ as for w
+pub record SameAnswers (N n : ℕ) (w w′ : List ℕ) : Type 0 where
+  pub check : check N n w′ ≡ check N n w
+  pub write : (sink : List ℕ) → writeTable N n w′ sink ≡ writeTable N n w sink
+  pub evaluate : (s : ℕ) → evaluation N n w′ s ≡ evaluation N n w s
+  pub count : modelCount N n w′ ≡ modelCount N n w
+  pub implies : (t : Term) → implicantTest N n w′ t ≡ implicantTest N n w t
+  pub prime : (t : Term) → primeTest N n w′ t ≡ primeTest N n w t
+  pub reduce : (s : ℕ) → reduction N n w′ s ≡ reduction N n w s
+  pub list : (R : ℕ) (b : Lent) → listTable N n w′ R b ≡ listTable N n w R b
+
+-- ---- demand 1: every operation takes any input and does its work or refuses by a number of the scope, at a place that the
+-- scope allows; what a refusal leaves in each lent buffer is fixed
+pub record AnyInput : Type 0 where
+  -- reading the text s with m lent words
+  pub read : (s : List ℕ) (m : ℕ) → Answers (readRefusals (length s)) (readText s m .answer)
+  -- a refusal leaves every lent word 0
+  pub read-refused : (s : List ℕ) (m k p : ℕ) → readText s m .answer ≡ refused k p → readText s m .words ≡ replicate m 0
+  -- writing a table into a sink
+  pub write : (N n : ℕ) (w sink : List ℕ) → Answers (writeRefusals n (length sink)) (writeTable N n w sink .answer)
+  -- 16 comes with the needed length
+  pub write-short : (N n : ℕ) (w sink : List ℕ) (p : ℕ) → writeTable N n w sink .answer ≡ refused 16 p → p ≡ length (tableText N n w)
+  -- a refusal leaves the sink as it was
+  pub write-refused : (N n : ℕ) (w sink : List ℕ) (k p : ℕ) → writeTable N n w sink .answer ≡ refused k p
+      → writeTable N n w sink .sink ≡ sink
+  -- bytes past the text, of length k, never change
+  pub write-past : (N n : ℕ) (w sink : List ℕ) (k : ℕ) → writeTable N n w sink .answer ≡ answered k
+      → drop k (writeTable N n w sink .sink) ≡ drop k sink
+  -- the check of a table
+  pub check : (N n : ℕ) (w : List ℕ) → Answers (tableRefusals n) (check N n w)
+  -- the value at the assignment s
+  pub evaluate : (N n : ℕ) (w : List ℕ) (s : ℕ) → Answers (tableRefusals n ++ ((31, At 0) ∷ [])) (evaluation N n w s)
+  -- the model count
+  pub count : (N n : ℕ) (w : List ℕ) → Answers (tableRefusals n) (modelCount N n w)
+  -- the tests of the term t
+  pub implies : (N n : ℕ) (w : List ℕ) (t : Term) → Answers (tableRefusals n ++ ((32, At 0) ∷ [])) (implicantTest N n w t)
+  pub prime : (N n : ℕ) (w : List ℕ) (t : Term) → Answers (tableRefusals n ++ ((32, At 0) ∷ [])) (primeTest N n w t)
+  -- the reduction of the assignment s
+  pub reduce : (N n : ℕ) (w : List ℕ) (s : ℕ)
+      → Answers (tableRefusals n ++ ((31, At 0) ∷ (33, At 0) ∷ [])) (reduction N n w s)
+  -- listing with the capacity R into the buffers b
+  pub list : (N n : ℕ) (w : List ℕ) (R : ℕ) (b : Lent)
+      → Answers (tableRefusals n ++ ((41, At 0) ∷ (42, At 0) ∷ [])) (listTable N n w R b .answer)
+  -- a refusal other than 42 leaves every buffer as it was
+  pub list-refused : (N n : ℕ) (w : List ℕ) (R : ℕ) (b : Lent) (k p : ℕ) → listTable N n w R b .answer ≡ refused k p → k ≢ 42
+      → listTable N n w R b .after ≡ b
+  -- 42 leaves zeros in the first n × R entries of both row buffers and in the first n counts, and the rest as it was
+  pub list-lack : (N n : ℕ) (w : List ℕ) (R : ℕ) (b : Lent) (p : ℕ) → listTable N n w R b .answer ≡ refused 42 p
+      → listTable N n w R b .after
+      ≡ lent (replicate (n * R) 0 ++ drop (n * R) (b .positives)) (replicate (n * R) 0 ++ drop (n * R) (b .negatives))
+      (replicate n 0 ++ drop n (b .counts))
+  -- a listing that is done leaves the entries past n × R, and the counts past n, as they were
+  pub list-past : (N n : ℕ) (w : List ℕ) (R : ℕ) (b : Lent) → let a : Lent = listTable N n w R b .after in
+      listTable N n w R b .answer ≡ answered tt
+      → (drop (n * R) (a .positives) ≡ drop (n * R) (b .positives))
+      × (drop (n * R) (a .negatives) ≡ drop (n * R) (b .negatives))
+      × (drop n (a .counts) ≡ drop n (b .counts))
+  -- the view of c entries of node i in the row buffer s: those from i × R on, and the empty part where an argument is out of range
+  pub view : (s : List ℕ) (R i c : ℕ) → i < maxNodes → R ≤ maxCapacity → c ≤ R → i * R + c ≤ length s → viewed s R i c ≡ take c (drop (i * R) s)
+  pub view-empty : (s : List ℕ) (R i c : ℕ) → ((maxNodes ≤ i) ⊎ (maxCapacity < R) ⊎ (R < c) ⊎ (length s < i * R + c)) → viewed s R i c ≡ []
+  -- reading the assignment line s
+  pub line : (s : List ℕ) (N : ℕ) → Answers (lineRefusals (length s)) (readAssignment s N)
+  -- a refusal comes with the mask 0
+  pub line-refused : (s : List ℕ) (N k p : ℕ) → readAssignment s N ≡ refused k p → maskOf (readAssignment s N) ≡ 0
+  -- words past those of the nodes are not read: any v may stand there
+  pub unread : (N n : ℕ) (w v : List ℕ) → nodeWords * n ≤ length w → SameAnswers N n w (take (nodeWords * n) w ++ v)
+
+-- ---- demand 2: verdict, count, tests and reduction agree with the Boolean function of the circuit, which is its last node's; the
+-- reading answers what the grammar says, and a table that is written is read in again
+-- an answer that is yes exactly if P holds
+abbrev pub Decides : Outcome Bool → Type 0 → Type 0
+Decides (answered b) P = (T b → P) × (P → T b)
+Decides (refused k p) P = ⊥
+
+-- what is left of the assignment s: a prime implicant of f that agrees with it
+abbrev pub ReducedTo : ℕ → (ℕ → Bool) → ℕ → Outcome Term → Type 0
+ReducedTo N f s (answered t) = Prime N f t × Agrees t s
+ReducedTo N f s (refused k p) = ⊥
+
+-- an accepted circuit
+pub record Means (N n : ℕ) (w : List ℕ) : Type 0 where
+  -- a node's function is what its kind makes of its variable and of its children's functions
+  pub functions : (i s : ℕ) → i < n → function w i s ≡ nodeValue s (nodeAt w i) (λ c. function w c s)
+  -- the verdict for the assignment s is the function's value, and the count that of the assignments at which it is true
+  pub verdict : (s : ℕ) → s < 2 ^ N → evaluation N n w s ≡ answered (circuit n w s)
+  pub models : modelCount N n w ≡ answered (count (2 ^ N) (circuit n w))
+  -- the tests of a term: every assignment that agrees with it makes the function true; and no literal can be struck
+  pub implies : (t : Term) → IsTerm N t → Decides (implicantTest N n w t) (Implicant N (circuit n w) t)
+  pub prime : (t : Term) → IsTerm N t → Decides (primeTest N n w t) (Prime N (circuit n w) t)
+  -- the reduction of a satisfying assignment, and 33 for any other
+  pub reduced : (s : ℕ) → s < 2 ^ N → T (circuit n w s) → ReducedTo N (circuit n w) s (reduction N n w s)
+  pub unsatisfied : (s : ℕ) → s < 2 ^ N → T (not (circuit n w s)) → reduction N n w s ≡ refused 33 0
+
+pub record OneMeaning : Type 0 where
+  -- the questions to every accepted circuit
+  pub circuits : (N n : ℕ) (w : List ℕ) → check N n w ≡ accepted → Means N n w
+  -- the reading of a text answers what the grammar allows, and nothing else is allowed
+  pub read : (s : List ℕ) (m : ℕ) → Bytes s → ReadsAs s m (readText s m .answer) (readText s m .words)
+  pub read-only : (s : List ℕ) (m : ℕ) → Bytes s → (a : Outcome (ℕ × ℕ)) (v : List ℕ) → ReadsAs s m a v → readText s m ≡ answers a v
+  -- the faults of a tree stand in the order of their places, so that the first is the lowest
+  pub ordered : (room : ℕ) (t : Tree) → Between 0 (length (print t)) (treeFaults room t)
+  -- the same of an assignment line
+  pub line : (s : List ℕ) (N : ℕ) → Bytes s → LineReadsAs s N (readAssignment s N)
+  pub line-only : (s : List ℕ) (N : ℕ) → Bytes s → (a : Outcome ℕ) → LineReadsAs s N a → readAssignment s N ≡ a
+  -- every table with neither 21 nor 22 is written where the sink is long enough
+  pub writes : (N n : ℕ) (w sink : List ℕ) → checkWords N n w ≡ accepted → length (tableText N n w) ≤ length sink
+      → writeTable N n w sink .answer ≡ answered (length (tableText N n w))
+  -- where writing answers the length k, the first k bytes of the sink, read with words enough, give N, n and the table, the rest 0
+  pub written-read : (N n : ℕ) (w sink : List ℕ) (k m : ℕ) → writeTable N n w sink .answer ≡ answered k → nodeWords * n ≤ m
+      → readText (take k (writeTable N n w sink .sink)) m
+      ≡ answers (answered (N, n)) (take (nodeWords * n) w ++ replicate (m - nodeWords * n) 0)
+
+-- ---- demand 3: a listing of an accepted circuit is refused (42) exactly if it has more prime implicants than the capacity; else every
+-- node's entries are all its prime implicants, each once, in order, and nothing else; no node has more than the last
+-- what the listing asks: an accepted table, a capacity within the limit, and buffers large enough, whatever they hold
+pub record Asked (N n : ℕ) (w : List ℕ) (R : ℕ) (b : Lent) : Type 0 where
+  pub table : check N n w ≡ accepted
+  pub capacity : R ≤ maxCapacity
+  pub positives : n * R ≤ length (b .positives)
+  pub negatives : n * R ≤ length (b .negatives)
+  pub counts : n ≤ length (b .counts)
+
+-- node i's entries in the buffers a: as many as its count says, from i × R on, as terms
+abbrev pub entriesAt : ℕ → Lent → ℕ → List Term
+entriesAt R a i =
+    let c : ℕ = getD (a .counts) i 0 in
+    termsOf (take c (drop (i * R) (a .positives))) (take c (drop (i * R) (a .negatives)))
+
+-- node i in the buffers a after a listing
+pub record NodeListed (N n : ℕ) (w : List ℕ) (R : ℕ) (a : Lent) (i : ℕ) : Type 0 where
+  -- its count is the number of its prime implicants and of its entries, and no count is above the last node's
+  pub number : getD (a .counts) i 0 ≡ length (nodePrimes N w i)
+  pub entries : length (entriesAt R a i) ≡ getD (a .counts) i 0
+  pub most : getD (a .counts) i 0 ≤ getD (a .counts) (pred n) 0
+  -- its entries are prime implicants of its function, and all of them, in order and so each once
+  pub only : (t : Term) → List·Memᴰ t (entriesAt R a i) → Prime N (function w i) t
+  pub every : (t : Term) → Prime N (function w i) t → List·Memᴰ t (entriesAt R a i)
+  pub order : Rising before (entriesAt R a i)
+  -- the other entries of its part are 0
+  pub unused : (j : ℕ) → getD (a .counts) i 0 ≤ j → j < R
+      → (getD (a .positives) (i * R + j) 0 ≡ 0) × (getD (a .negatives) (i * R + j) 0 ≡ 0)
+
+-- such a listing
+pub record Listed (N n : ℕ) (w : List ℕ) (R : ℕ) (o : ListOut) : Type 0 where
+  -- 42 exactly if the circuit, its last node, has more prime implicants than R
+  pub lack : o .answer ≡ refused 42 0 → R < length (nodePrimes N w (pred n))
+  pub lacking : R < length (nodePrimes N w (pred n)) → o .answer ≡ refused 42 0
+  -- otherwise it is done, and every node is listed
+  pub done : length (nodePrimes N w (pred n)) ≤ R → o .answer ≡ answered tt
+  pub nodes : length (nodePrimes N w (pred n)) ≤ R → (i : ℕ) → i < n → NodeListed N n w R (o .after) i
+
+pub record WholeListing : Type 0 where
+  pub listings : (N n : ℕ) (w : List ℕ) (R : ℕ) (b : Lent) → Asked N n w R b → Listed N n w R (listTable N n w R b)

@@ -1,0 +1,101 @@
+-- `listing::list_exact` meets its contract.
+use Prim.Native.Nat.{ℕ, _*_}
+use mathlib.Core.Path.{_≡_, _∙_}
+use mathlib.Core.Bool.{Bool, true, false}
+use mathlib.Core.List.{List}
+use lib.ListN.{length}
+use borrow.Author.Needs.{needs}
+use Rattle.insertion.specs.Filled.{bySign}
+use Rattle.listing.proofs.Answers.{exact-all, exact-none, zeros-of}
+use Rattle.listing.proofs.list_exact.Statement.{statement}
+use Rattle.listing.proofs.list_exact.Tie as tie
+
+abbrev start : tie.After-clear → tie.Start
+start k = k .before .before .before .before .before .before .before .before
+
+-- after the first clearing, and after the loop over the nodes
+abbrev cleared : tie.After-fill-all → tie.After-clear
+cleared f = f .before .before .before .before .before .before .before .before .before .before
+
+abbrev buffers : tie.After-fill-all → Bool → List ℕ
+buffers f = bySign (f .fill-all .last .0) (f .fill-all .last .1 .0)
+
+clear-requires : tie.Need-clear-requires
+clear-requires c κs = search needs
+
+fill-all-requires : tie.Need-fill-all-requires
+fill-all-requires c κs =
+    let k = c .before .before .before .before .before .before .before .before .before in
+    let s = start k in
+    let x = s .args in
+    let z = k .clear .ensures in (
+      (s .pre .0 .0, s .pre .0 .1, zeros-of (x .n) (k .clear .last .1 .1 .0) (x .counts .now) (z .2) (s .pre .0 .2)),
+      (
+        zeros-of (x .n * x .capacity) (k .clear .last .0) (x .positives .now) (z .0) (s .pre .1 .0),
+        zeros-of (x .n * x .capacity) (k .clear .last .1 .0) (x .negatives .now) (z .1) (s .pre .1 .1),
+      ),
+    )
+
+same-length : tie.Need-same-length
+same-length c = search needs
+
+same-length-2 : tie.Need-same-length-2
+same-length-2 c = search needs
+
+same-length-3 : tie.Need-same-length-3
+same-length-3 c = search needs
+
+returns : tie.Need-returns
+returns c =
+    let f = c .before .before .before .before .before .before .before in
+    let x = start (cleared f) .args in
+    exact-all (x .variables) (x .n) (x .words .now) (x .capacity) (buffers f) (f .fill-all .last .1 .1 .0) (f .fill-all .result)
+    (f .fill-all .ensures) (c .if1 .taken)
+
+clear-requires-2 : tie.Need-clear-requires-2
+clear-requires-2 c κs = search needs
+
+same-length-4 : tie.Need-same-length-4
+same-length-4 c = search needs
+
+same-length-5 : tie.Need-same-length-5
+same-length-5 c = search needs
+
+same-length-6 : tie.Need-same-length-6
+same-length-6 c = search needs
+
+returns-2 : tie.Need-returns-2
+returns-2 c =
+    let z = c .before .before .before .before .before .before in
+    let e = z .before .before .before .before in
+    let f = e .before .before .before .before .before .before .before in
+    let k = cleared f in
+    let s = start k in
+    let x = s .args in
+    let d = z .clear2 .ensures in
+    let p : length (f .fill-all .last .0) ≡ x .n * x .capacity = f .fill-all .kept .0 ∙ k .clear .kept .0 ∙ s .pre .1 .0 in
+    let q : length (f .fill-all .last .1 .0) ≡ x .n * x .capacity = f .fill-all .kept .1 .0 ∙ k .clear .kept .1 .0 ∙ s .pre .1 .1 in
+    let m : length (f .fill-all .last .1 .1 .0) ≡ x .n = f .fill-all .kept .1 .1 .0 ∙ k .clear .kept .1 .1 .0 ∙ s .pre .0 .2 in
+    exact-none (x .variables) (x .n) (x .words .now) (x .capacity) (buffers f) (f .fill-all .last .1 .1 .0) (f .fill-all .result)
+    (f .fill-all .ensures) (bySign (z .clear2 .last .0) (z .clear2 .last .1 .0)) (z .clear2 .last .1 .1 .0) (e .if1 .left)
+    (λ b. elim b [
+      | true ↦ zeros-of (x .n * x .capacity) (z .clear2 .last .0) (f .fill-all .last .0) (d .0) p
+      | false ↦ zeros-of (x .n * x .capacity) (z .clear2 .last .1 .0) (f .fill-all .last .1 .0) (d .1) q
+    ])
+    (zeros-of (x .n) (z .clear2 .last .1 .1 .0) (f .fill-all .last .1 .1 .0) (d .2) m)
+
+pub list-exact-spec : {M : Type 1} → statement M
+list-exact-spec =
+    tie.close
+    (tie.spec
+    clear-requires
+    fill-all-requires
+    same-length
+    same-length-2
+    same-length-3
+    returns
+    clear-requires-2
+    same-length-4
+    same-length-5
+    same-length-6
+    returns-2)

@@ -1,0 +1,19 @@
+-- What the listing's inner functions leave in buffers of just the needed length. No public contract rests on these.
+use Prim.Native.Nat.{ℕ, _*_}
+use mathlib.Core.Path.{_≡_}
+use mathlib.Core.Bool.{Bool, true, not, cond}
+use mathlib.Core.List.{List}
+use lib.ListN.{replicate}
+use Rattle.listing.specs.Listing.{listedMasks, listedCounts, exceeds}
+
+-- the parts of the nodes were to be filled; s and cs are the buffers then, and r says whether all terms fit
+pub record Tried (N n : ℕ) (w : List ℕ) (R : ℕ) (s : Bool → List ℕ) (cs : List ℕ) (r : Bool) : Type 0 where
+  pub answer : r ≡ not (exceeds N n w R)
+  pub masks : r ≡ true → (b : Bool) → s b ≡ listedMasks N n w R b
+  pub counts : r ≡ true → cs ≡ listedCounts N n w
+
+-- the same, with zeros everywhere where they do not fit
+pub record Exact (N n : ℕ) (w : List ℕ) (R : ℕ) (s : Bool → List ℕ) (cs : List ℕ) (r : Bool) : Type 0 where
+  pub answer : r ≡ not (exceeds N n w R)
+  pub masks : (b : Bool) → s b ≡ cond r (listedMasks N n w R b) (replicate (n * R) 0)
+  pub counts : cs ≡ cond r (listedCounts N n w) (replicate n 0)

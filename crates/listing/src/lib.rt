@@ -1,0 +1,195 @@
+// The prime implicants of every node of a circuit, listed in lent buffers; and the part of a buffer that holds one node's.
+ghost use mathlib.Core.Path.{_≡_};
+ghost use Prim.Native.Nat.{_*_, _≤_};
+ghost use lib.ListN.{length, replicate};
+ghost use Rattle.table.specs.Node.{maxNodes};
+ghost use Rattle.table.specs.Outcome.{accepted};
+ghost use Rattle.circuits.specs.Check.{check};
+ghost use Rattle.lists.specs.Capacity.{maxCapacity};
+ghost use Rattle.insertion.specs.Filled.{bySign};
+ghost use Rattle.listing.specs.Exact.{Tried, Exact};
+ghost use Rattle.listing.specs.Listing.{lent, ListResult, suffices, viewed};
+use buffers::zero_masks;
+use buffers::zero_words;
+use insertion::Kept;
+use lists::MAX_CAPACITY;
+use table::Checked;
+use table::MAX_NODES;
+use table::Refusal;
+
+// What a listing answers; specs/Listing.antt has the scope's numbers.
+pub enum Listing {
+    Listed,
+    Refused(Refusal),
+}
+
+// The part of the buffer that holds the first count entries of the node; the empty part for arguments out of range.
+pub fn view(buffer: &[u64], capacity: u32, node: u32, count: u32) -> &[u64]
+    ensures { λ r. ⌜ now r ≡ viewed (now (buffer .entry)) capacity node count ⌝ }
+{
+    if MAX_NODES <= node {
+        return &buffer[0..0];
+    }
+    if MAX_CAPACITY < capacity {
+        return &buffer[0..0];
+    }
+    if capacity < count {
+        return &buffer[0..0];
+    }
+    let start = (node as usize) * (capacity as usize);
+    let end = start + (count as usize);
+    if buffer.len() < end {
+        return &buffer[0..0];
+    }
+    &buffer[start..end]
+}
+
+fn clear(positives: &mut [u64], negatives: &mut [u64], counts: &mut [u32])
+    ensures { λ _. ⌜ (now (positives .exit) ≡ replicate (length (now (positives .entry))) 0)
+        × (now (negatives .exit) ≡ replicate (length (now (negatives .entry))) 0)
+        × (now (counts .exit) ≡ replicate (length (now (counts .entry))) 0) ⌝ }
+{
+    zero_masks(positives);
+    zero_masks(negatives);
+    zero_words(counts);
+}
+
+// Fills the nodes' parts of buffers of zeros, the lowest node first; false where a node has more terms than the capacity.
+// `variables` is there for the contract; ap, an, bp and bn are scratch for the terms of a node's children, made once for all nodes.
+fn fill_all(
+    positives: &mut [u64],
+    negatives: &mut [u64],
+    counts: &mut [u32],
+    words: &[u32],
+    variables: u32,
+    n: usize,
+    capacity: usize,
+) -> bool
+    requires { ⌜ (check variables n (now words) ≡ accepted) × (capacity ≤ maxCapacity) × (now counts ≡ replicate n 0) ⌝ }
+    requires { ⌜ (now positives ≡ replicate (n * capacity) 0) × (now negatives ≡ replicate (n * capacity) 0) ⌝ }
+    ensures { λ r. ⌜ Tried variables n (now (words .entry)) capacity (bySign (now (positives .exit)) (now (negatives .exit)))
+        (now (counts .exit)) r ⌝ }
+{
+    let mut ap = [0u64; MAX_CAPACITY as usize];
+    let mut an = [0u64; MAX_CAPACITY as usize];
+    let mut bp = [0u64; MAX_CAPACITY as usize];
+    let mut bn = [0u64; MAX_CAPACITY as usize];
+    let mut i = 0;
+    while i < n {
+        let Kept::Count(c) = nodes::fill_node(
+            positives,
+            negatives,
+            &mut ap,
+            &mut an,
+            &mut bp,
+            &mut bn,
+            counts,
+            words,
+            i,
+            capacity,
+        ) else {
+            return false;
+        };
+        counts[i] = c as u32;
+        i += 1;
+    }
+    true
+}
+
+// Lists in buffers of just the needed length, and zeroes them where the circuit has more prime implicants than the capacity.
+fn list_exact(
+    positives: &mut [u64],
+    negatives: &mut [u64],
+    counts: &mut [u32],
+    words: &[u32],
+    variables: u32,
+    n: usize,
+    capacity: usize,
+) -> bool
+    requires { ⌜ (check variables n (now words) ≡ accepted) × (capacity ≤ maxCapacity) × (length (now counts) ≡ n) ⌝ }
+    requires { ⌜ (length (now positives) ≡ n * capacity) × (length (now negatives) ≡ n * capacity) ⌝ }
+    ensures { λ r. ⌜ Exact variables n (now (words .entry)) capacity (bySign (now (positives .exit)) (now (negatives .exit)))
+        (now (counts .exit)) r ⌝ }
+{
+    clear(positives, negatives, counts);
+    if fill_all(positives, negatives, counts, words, variables, n, capacity) {
+        return true;
+    }
+    clear(positives, negatives, counts);
+    false
+}
+
+// The capacity is at most 4,096, and the buffers are large enough for it: not 41.
+fn is_enough(
+    positives: &[u64],
+    negatives: &[u64],
+    counts: &[u32],
+    n: usize,
+    capacity: usize,
+) -> bool
+    requires { ⌜ n ≤ maxNodes ⌝ }
+    ensures { λ r. ⌜ r ≡ suffices n capacity (lent (now (positives .entry)) (now (negatives .entry)) (now (counts .entry))) ⌝ }
+{
+    if (MAX_CAPACITY as usize) < capacity {
+        return false;
+    }
+    let total = n * capacity;
+    (total <= positives.len()) & (total <= negatives.len()) & (n <= counts.len())
+}
+
+// Lists the prime implicants of an accepted circuit's nodes: 41 and 42.
+fn list_accepted(
+    positives: &mut [u64],
+    negatives: &mut [u64],
+    counts: &mut [u32],
+    words: &[u32],
+    variables: u32,
+    n: usize,
+    capacity: usize,
+) -> Listing
+    requires { ⌜ check variables n (now words) ≡ accepted ⌝ }
+    ensures { λ r. ⌜ ListResult variables n (now (words .entry)) capacity
+        (lent (now (positives .entry)) (now (negatives .entry)) (now (counts .entry)))
+        (lent (now (positives .exit)) (now (negatives .exit)) (now (counts .exit))) r ⌝ }
+{
+    if !is_enough(positives, negatives, counts, n, capacity) {
+        return Listing::Refused(Refusal::Buffers);
+    }
+    let total = n * capacity;
+    if list_exact(
+        &mut positives[..total],
+        &mut negatives[..total],
+        &mut counts[..n],
+        words,
+        variables,
+        n,
+        capacity,
+    ) {
+        return Listing::Listed;
+    }
+    Listing::Refused(Refusal::Capacity)
+}
+
+// Lists the prime implicants of every node: those of node i from entry i × capacity on, and their number at entry i of the counts.
+pub fn list(
+    positives: &mut [u64],
+    negatives: &mut [u64],
+    counts: &mut [u32],
+    words: &[u32],
+    variables: u32,
+    nodes: u32,
+    capacity: u32,
+) -> Listing
+    ensures { λ r. ⌜ ListResult variables nodes (now (words .entry)) capacity
+        (lent (now (positives .entry)) (now (negatives .entry)) (now (counts .entry)))
+        (lent (now (positives .exit)) (now (negatives .exit)) (now (counts .exit))) r ⌝ }
+{
+    match checks::check(words, variables, nodes) {
+        Checked::Refused(refusal) => Listing::Refused(refusal),
+        Checked::Accepted => {
+            let n = nodes as usize;
+            let size = capacity as usize;
+            list_accepted(positives, negatives, counts, words, variables, n, size)
+        }
+    }
+}

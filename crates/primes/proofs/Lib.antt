@@ -1,4 +1,0 @@
-pub mod Table
-pub mod Bounds
-pub mod Answers
-pub mod Demand

@@ -1,0 +1,4 @@
+pub mod Node
+pub mod Gate
+pub mod Outcome
+pub mod Words

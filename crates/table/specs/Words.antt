@@ -1,0 +1,81 @@
+-- The numbers and words of a table: 21 and 22.
+use Prim.Native.Nat.{ℕ, _*_, _<_, _≤_}
+use mathlib.Core.Bool.{Bool, true, false, _&&_, not, cond}
+use mathlib.Core.List.{List, [], _∷_}
+use lib.Dec.{T, eqb, ltb, leb}
+use lib.ListN.{length}
+use Rattle.masks.specs.Numbers.{least}
+use Rattle.table.specs.Node.{kind, nodeWords, word, maxNodes, maxVariables, Kind, constantKind, literalKind, decisionKind}
+use Rattle.table.specs.Node.{conjunctionKind, unknownKind}
+use Rattle.table.specs.Outcome.{accepted, Outcome, refused}
+
+-- a kind that uses the word fact, and one that uses the words a and b
+abbrev pub usesVariable : Kind → Bool
+usesVariable (constantKind v) = false
+usesVariable (literalKind v) = true
+usesVariable decisionKind = true
+usesVariable conjunctionKind = false
+usesVariable unknownKind = false
+
+abbrev pub usesChildren : Kind → Bool
+usesChildren (constantKind v) = false
+usesChildren (literalKind v) = false
+usesChildren decisionKind = true
+usesChildren conjunctionKind = true
+usesChildren unknownKind = false
+
+abbrev pub isKnown : Kind → Bool
+isKnown (constantKind v) = true
+isKnown (literalKind v) = true
+isKnown decisionKind = true
+isKnown conjunctionKind = true
+isKnown unknownKind = false
+
+-- a used word is below its bound, an unused word is 0
+abbrev pub wordFits : Bool → ℕ → ℕ → Bool
+wordFits used bound v = cond used (ltb v bound) (eqb v 0)
+
+-- node i's words, by its kind
+abbrev pub wellFormed : ℕ → ℕ → Kind → ℕ → ℕ → ℕ → Bool
+wellFormed N i k x a b =
+    isKnown k && wordFits (usesVariable k) N x && wordFits (usesChildren k) i a && wordFits (usesChildren k) i b
+
+-- a number of variables that is allowed
+abbrev pub variablesFit : ℕ → Bool
+variablesFit N = leb 1 N && leb N maxVariables
+
+-- 21: N or n outside its range, or too few words
+abbrev pub inRange : ℕ → ℕ → List ℕ → Bool
+inRange N n w = variablesFit N && leb 1 n && leb n maxNodes && leb (nodeWords * n) (length w)
+
+-- 22: a kind above 5, a used fact not below N, a used child not below its parent, or an unused word not 0
+unfoldable pub malformed : ℕ → List ℕ → ℕ → Bool
+malformed N w i = not (wellFormed N i (kind (word w i 0)) (word w i 1) (word w i 2) (word w i 3))
+
+-- the first rule that some node below n breaks, with its lowest such node
+abbrev pub firstFault : ℕ → List (ℕ × (ℕ → Bool)) → Outcome (Unit {0})
+firstFault n [] = accepted
+firstFault n (r ∷ rs) =
+    let i : ℕ = least n (r .1) in
+    let rest : Outcome (Unit {0}) = firstFault n rs in
+    cond (ltb i n) (refused (r .0) i) rest
+
+-- 21, then such rules
+abbrev pub checkBy : ℕ → ℕ → List ℕ → List (ℕ × (ℕ → Bool)) → Outcome (Unit {0})
+checkBy N n w rs = let nodes : Outcome (Unit {0}) = firstFault n rs in cond (inRange N n w) nodes (refused 21 0)
+
+-- 21, then 22 with its lowest node: what is accepted is well-formed
+unfoldable pub checkWords : ℕ → ℕ → List ℕ → Outcome (Unit {0})
+checkWords N n w = checkBy N n w ((22, malformed N w) ∷ [])
+
+-- what a table is that is refused with neither 21 nor 22; no public contract rests on this
+pub record Sound (N n : ℕ) (w : List ℕ) : Type 0 where
+  pub narrow : N ≤ maxVariables
+  pub first : 1 ≤ n
+  pub nodes : n ≤ maxNodes
+  pub words : nodeWords * n ≤ length w
+  pub well : (i : ℕ) → i < n → T (not (malformed N w i))
+
+-- it is one over some number of variables
+abbrev pub Readable : ℕ → List ℕ → Type 0
+Readable n w = (N : ℕ) × Sound N n w

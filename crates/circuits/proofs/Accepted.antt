@@ -37,7 +37,7 @@ accepted-e N n w e =
       reduced = none (25, unreduced w) (List·Memᴰ·tail (List·Memᴰ·tail (List·Memᴰ·tail (List·Memᴰ·head refl))));
     }
 
-module _ (N n : ℕ) (w : List ℕ) (acc : Accepted N n w) where
+module _ {N n : ℕ} {w : List ℕ} (acc : Accepted N n w) where
   pub variables-le : N ≤ 40
   variables-le = leb→le N 40 (let r = acc .range in search (and-l, and-r))
 

@@ -20,15 +20,15 @@ use Rattle.circuits.proofs.Nodes.{allOf, function-is, conjunction-below
 use Rattle.circuits.proofs.Satisfiable.{HasPrime, all-has, conjunction-live, side-up, has-prime}
 use Rattle.circuits.proofs.Tables.{children-below}
 
-module _ (N n : ℕ) (w : List ℕ) (acc : Accepted N n w) where
+module _ {N n : ℕ} {w : List ℕ} (acc : Accepted N n w) where
   all-embeds : (cs : List ℕ) → T (allDisjoint (support w) cs) → ((c : ℕ) → List·Memᴰ c cs → c < n)
-      → ((c : ℕ) → List·Memᴰ c cs → HasPrime N n w acc (function w c)) → (c : ℕ) → List·Memᴰ c cs
+      → ((c : ℕ) → List·Memᴰ c cs → HasPrime acc (function w c)) → (c : ℕ) → List·Memᴰ c cs
       → Embeds N (function w c) (allOf w cs)
   all-embeds [] d l h c m = absurd (List·Memᴰ·not-nil m)
   all-embeds (b ∷ cs) d l h c m =
       ⊎-elim
       (λ (e : c ≡ b).
-      let (t, pt) = all-has N n w acc cs rest below (λ e m. h e (List·Memᴰ·tail m)) in
+      let (t, pt) = all-has acc cs rest below (λ e m. h e (List·Memᴰ·tail m)) in
       subst (λ (z : ℕ). Embeds N (function w z) (allOf w (b ∷ cs))) (sym e)
       (left-embeds N (function w b) (allOf w cs) apart t pt))
       (λ (k : List·Memᴰ c cs).
@@ -39,13 +39,13 @@ module _ (N n : ℕ) (w : List ℕ) (acc : Accepted N n w) where
       (List·Memᴰ·cases-cons m)
     where
       rest : T (allDisjoint (support w) cs)
-      rest = rest-disjoint N n w acc b cs d
+      rest = rest-disjoint acc b cs d
 
       below : (c : ℕ) → List·Memᴰ c cs → c < n
       below c m = l c (List·Memᴰ·tail m)
 
       apart : (x : ℕ) → x < N → Free N (function w b) x ⊎ Free N (allOf w cs) x
-      apart = all-apart N n w acc b cs d l
+      apart = all-apart acc b cs d l
 
   -- a child's prime implicants go one to one into its parent's
   child-up : (i j : ℕ) → j < n → (y : Node) → nodeAt w j ≡ y → List·Memᴰ i (children y) → Embeds N (function w i) (function w j)
@@ -54,16 +54,16 @@ module _ (N n : ℕ) (w : List ℕ) (acc : Accepted N n w) where
   child-up i j l (decision x a b) e m =
       ⊎-elim
       (λ (d : i ≡ a).
-      subst (λ (z : ℕ). Embeds N (function w z) (function w j)) (sym d) (side-up N n w acc j x a b l e false))
+      subst (λ (z : ℕ). Embeds N (function w z) (function w j)) (sym d) (side-up acc j x a b l e false))
       (λ (k : List·Memᴰ i (b ∷ [])).
       subst (λ (z : ℕ). Embeds N (function w z) (function w j)) (sym (List·Memᴰ·eq-of-singleton k))
-      (side-up N n w acc j x a b l e true))
+      (side-up acc j x a b l e true))
       (List·Memᴰ·cases-cons m)
   child-up i j l (conjunction cs) e m =
-      let below : (c : ℕ) → List·Memᴰ c cs → c < n = conjunction-below N n w acc j cs l e in
-      subst (Embeds N (function w i)) (sym (function-is N n w acc j (conjunction cs) l e))
-      (all-embeds cs (conjunction-disjoint N n w acc j cs l e) below
-      (λ c k. has-prime N n w acc c (below c k) (conjunction-live N n w acc j cs l e c k)) i m)
+      let below : (c : ℕ) → List·Memᴰ c cs → c < n = conjunction-below acc j cs l e in
+      subst (Embeds N (function w i)) (sym (function-is acc j (conjunction cs) l e))
+      (all-embeds cs (conjunction-disjoint acc j cs l e) below
+      (λ c k. has-prime acc c (below c k) (conjunction-live acc j cs l e c k)) i m)
   child-up i j l unknown e m = absurd (List·Memᴰ·not-nil m)
 
   -- up through parents to the last node; k bounds how many are left
@@ -75,7 +75,7 @@ module _ (N n : ℕ) (w : List ℕ) (acc : Accepted N n w) where
       let q : i ≡ pred n = omega arith in
       subst (λ (z : ℕ). Embeds N (function w i) (function w z)) q (embeds-refl N (function w i)))
       (λ (q : suc i < n).
-      let (j, lj, m) = parent N n w acc i q in
+      let (j, lj, m) = parent acc i q in
       let d : i < j = children-below N n w (acc .well) j lj i m in
       embeds-trans N (function w i) (function w j) (function w (pred n)) (child-up i j lj (nodeAt w j) refl m)
       (up k j (omega arith) lj))

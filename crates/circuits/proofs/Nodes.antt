@@ -30,7 +30,7 @@ sides w a b c = function w (cond c b a)
 abbrev pub allOf : List ℕ → List ℕ → ℕ → Bool
 allOf w cs s = all (λ c. function w c s) cs
 
-module _ (N n : ℕ) (w : List ℕ) (acc : Accepted N n w) where
+module _ {N n : ℕ} {w : List ℕ} (acc : Accepted N n w) where
   pub node-fits : (i : ℕ) (y : Node) → i < n → nodeAt w i ≡ y → Fits N i y
   node-fits i y l e = subst (Fits N i) e (fits N n w (acc .well) i l)
 
@@ -70,7 +70,7 @@ module _ (N n : ℕ) (w : List ℕ) (acc : Accepted N n w) where
   pub all-apart : (c : ℕ) (cs : List ℕ) → T (allDisjoint (support w) (c ∷ cs)) → ((d : ℕ) → List·Memᴰ d (c ∷ cs) → d < n)
       → (x : ℕ) → x < N → Free N (function w c) x ⊎ Free N (allOf w cs) x
   all-apart c cs h l x k =
-      let wide : N ≤ width = variables-wide N n w acc in
+      let wide : N ≤ width = variables-wide acc in
       ⊎-map (λ (p : T (not (bit (support w c) x))). not-under c x (l c (List·Memᴰ·head refl)) p)
       (λ (p : T (not (bit (union (support w) cs) x))). all-not-under cs x (λ d m. l d (List·Memᴰ·tail m)) p)
       (disjoint-at (support w c) (union (support w) cs)

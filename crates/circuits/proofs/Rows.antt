@@ -115,23 +115,23 @@ module _ (N : ℕ) where
   unfolding sort
   sort-one t = refl
 
-module _ (N n : ℕ) (w : List ℕ) (acc : Accepted N n w) where
+module _ {N n : ℕ} {w : List ℕ} (acc : Accepted N n w) where
   abbrev rows : ℕ → List Term
   rows c = primes N (function w c)
 
   wide : N ≤ width
-  wide = variables-wide N n w acc
+  wide = variables-wide acc
 
   all-lists : (cs : List ℕ) → T (allDisjoint (support w) cs) → ((c : ℕ) → List·Memᴰ c cs → c < n)
       → Lists N (allOf w cs) (joinAll rows cs)
   all-lists [] d l = constant-lists N true
   all-lists (c ∷ cs) d l =
       joins-lists N wide (function w c) (allOf w cs) (rows c) (joinAll rows cs) (primes-lists N (function w c))
-      (all-lists cs (rest-disjoint N n w acc c cs d) (λ e m. l e (List·Memᴰ·tail m))) (all-apart N n w acc c cs d l)
+      (all-lists cs (rest-disjoint acc c cs d) (λ e m. l e (List·Memᴰ·tail m))) (all-apart acc c cs d l)
 
   -- one node, from its children's prime implicants
   node-terms : (i : ℕ) → i < n → (y : Node) → nodeAt w i ≡ y → Fits N i y → nodeTerms y rows ≡ rows i
-  node-terms i l y e f = build y e f ∙ ap (primes N) (sym (function-is N n w acc i y l e))
+  node-terms i l y e f = build y e f ∙ ap (primes N) (sym (function-is acc i y l e))
     where
       build : (y : Node) → nodeAt w i ≡ y → Fits N i y → nodeTerms y rows ≡ primes N (λ s. nodeValue s y (λ c. function w c s))
       build (constant b) e f =
@@ -141,11 +141,11 @@ module _ (N n : ℕ) (w : List ℕ) (acc : Accepted N n w) where
           ∙ sort-primes N (λ s. signed b (bit s x)) (extend empty x b ∷ []) (literal-lists N b x f)
       build (decision x a b) e f =
           sort-primes N (choice (sides w a b) x) (decisionTerms x (rows a) (rows b))
-          (decision-lists N wide (sides w a b) x (f .0) (decision-free N n w acc i x a b l e) (rows a) (rows b)
+          (decision-lists N wide (sides w a b) x (f .0) (decision-free acc i x a b l e) (rows a) (rows b)
           (primes-lists N (function w a)) (primes-lists N (function w b)))
       build (conjunction cs) e f =
           sort-primes N (allOf w cs) (joinAll rows cs)
-          (all-lists cs (conjunction-disjoint N n w acc i cs l e) (conjunction-below N n w acc i cs l e))
+          (all-lists cs (conjunction-disjoint acc i cs l e) (conjunction-below acc i cs l e))
       build unknown e f = absurd f
 
   -- every node's built terms are its prime implicants in order

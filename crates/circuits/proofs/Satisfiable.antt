@@ -23,7 +23,7 @@ use Rattle.circuits.proofs.Nodes.{sides, allOf, node-fits, function-is,
 use Rattle.circuits.proofs.Nodes.{all-apart, rest-disjoint, true-prime, literal-prime}
 use Rattle.circuits.proofs.Tables.{Fits, fits, node-induction}
 
-module _ (N n : ℕ) (w : List ℕ) (acc : Accepted N n w) where
+module _ {N n : ℕ} {w : List ℕ} (acc : Accepted N n w) where
   abbrev pub HasPrime : (ℕ → Bool) → Type 0
   HasPrime f = (t : Term) × Prime N f t
 
@@ -37,8 +37,8 @@ module _ (N n : ℕ) (w : List ℕ) (acc : Accepted N n w) where
   all-has (c ∷ cs) d l h =
       let (t, pt) = h c (List·Memᴰ·head refl) in
       let (u, pu) =
-      all-has cs (rest-disjoint N n w acc c cs d) (λ e m. l e (List·Memᴰ·tail m)) (λ e m. h e (List·Memᴰ·tail m)) in
-      (join t u, apart-prime N (function w c) (allOf w cs) (all-apart N n w acc c cs d l) t u pt pu)
+      all-has cs (rest-disjoint acc c cs d) (λ e m. l e (List·Memᴰ·tail m)) (λ e m. h e (List·Memᴰ·tail m)) in
+      (join t u, apart-prime N (function w c) (allOf w cs) (all-apart acc c cs d l) t u pt pu)
 
   -- ---- a conjunction has no `false` child, a decision at most one
   pub conjunction-live : (i : ℕ) (cs : List ℕ) → i < n → nodeAt w i ≡ conjunction cs → (c : ℕ) → List·Memᴰ c cs → Live c
@@ -58,23 +58,23 @@ module _ (N n : ℕ) (w : List ℕ) (acc : Accepted N n w) where
 
   pub side-up : (i x a b : ℕ) → i < n → nodeAt w i ≡ decision x a b → (c : Bool) → Embeds N (sides w a b c) (function w i)
   side-up i x a b l e c =
-      subst (Embeds N (sides w a b c)) (sym (function-is N n w acc i (decision x a b) l e))
-      (side-embeds N (sides w a b) x (node-fits N n w acc i (decision x a b) l e .0) (decision-free N n w acc i x a b l e) c)
+      subst (Embeds N (sides w a b c)) (sym (function-is acc i (decision x a b) l e))
+      (side-embeds N (sides w a b) x (node-fits acc i (decision x a b) l e .0) (decision-free acc i x a b l e) c)
 
   has-at : (i : ℕ) → i < n → (y : Node) → nodeAt w i ≡ y → Fits N i y
       → ((c : ℕ) → List·Memᴰ c (children y) → Live c → HasPrime (function w c)) → T (not (isFalse y)) → HasPrime (function w i)
   has-at i l (constant true) e f below h =
-      subst HasPrime (sym (function-is N n w acc i (constant true) l e)) (empty, true-prime N)
+      subst HasPrime (sym (function-is acc i (constant true) l e)) (empty, true-prime N)
   has-at i l (constant false) e f below h = absurd h
   has-at i l (literal b x) e f below h =
-      subst HasPrime (sym (function-is N n w acc i (literal b x) l e)) (extend empty x b, literal-prime N b x f)
+      subst HasPrime (sym (function-is acc i (literal b x) l e)) (extend empty x b, literal-prime N b x f)
   has-at i l (decision x a b) e f below h =
       let (c, live) = decision-live i x a b l e in
       let (t, pt) = below (cond c b a) (branch-mem a b c) live in
       (side-up i x a b l e c .to t, side-up i x a b l e c .keeps t pt)
   has-at i l (conjunction cs) e f below h =
-      subst HasPrime (sym (function-is N n w acc i (conjunction cs) l e))
-      (all-has cs (conjunction-disjoint N n w acc i cs l e) (conjunction-below N n w acc i cs l e)
+      subst HasPrime (sym (function-is acc i (conjunction cs) l e))
+      (all-has cs (conjunction-disjoint acc i cs l e) (conjunction-below acc i cs l e)
       (λ c m. below c m (conjunction-live i cs l e c m)))
   has-at i l unknown e f below h = absurd f
 

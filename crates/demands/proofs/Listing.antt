@@ -64,7 +64,7 @@ module _ (N n : ℕ) (w : List ℕ) (R : ℕ) (b : Lent) where
   filled-past acc e =
       let last : length (nodePrimes N w (pred n)) ≤ R =
       nltb→le R (length (nodePrimes N w (pred n))) (along (ap not (sym e)) tt) in
-      let fit : Fit N w R n = λ i l. le-trans (no-more N n w (accepted-e N n w acc) i l) last in (
+      let fit : Fit N w R n = λ i l. le-trans (no-more (accepted-e N n w acc) i l) last in (
         drop-at (listedMasks N n w R true) (drop (n * R) (b .positives)) (n * R) (length-listed N w R n true fit),
         drop-at (listedMasks N n w R false) (drop (n * R) (b .negatives)) (n * R) (length-listed N w R n false fit),
         drop-at (listedCounts N n w) (drop n (b .counts)) n (length-counts N w R n),

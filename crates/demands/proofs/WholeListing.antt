@@ -64,7 +64,7 @@ module _ (N n : ℕ) (w : List ℕ) (R : ℕ) (lend : Lent) (asked : Asked N n w
   module _ (h : last ≤ R) where
     fit : Fit N w R n
     unfolding last
-    fit i l = le-trans (no-more N n w accepts i l) h
+    fit i l = le-trans (no-more accepts i l) h
 
     is-filled : result ≡ filled N n w R lend
     unfolding exceeds last
@@ -108,7 +108,7 @@ module _ (N n : ℕ) (w : List ℕ) (R : ℕ) (lend : Lent) (asked : Asked N n w
             number = counted i l;
             entries = ap length exact ∙ sym (counted i l);
             most = le-trans (le-of-eq (counted i l))
-                (le-trans (no-more N n w accepts i l) (le-of-eq (sym (counted (pred n) (omega arith)))));
+                (le-trans (no-more accepts i l) (le-of-eq (sym (counted (pred n) (omega arith)))));
             only = λ t m. primes-lists N (function w i) .only t (subst (List·Memᴰ t) exact m);
             every = λ t p. subst (List·Memᴰ t) (sym exact) (primes-lists N (function w i) .every t p);
             order = subst (Rising before) (sym exact) (primes-rising N (function w i));

@@ -12,7 +12,7 @@ use Rattle.circuits.proofs.Accepted.{Accepted}
 use Rattle.lists.specs.Capacity.{maxCapacity}
 use Rattle.listing.specs.Listing.{suffices, Lent}
 
-module _ (N n : ℕ) (w : List ℕ) (acc : Accepted N n w) where
+module _ {N n : ℕ} {w : List ℕ} (acc : Accepted N n w) where
   pub nodes-some : 1 ≤ n
   nodes-some = leb→le 1 n (let r = acc .range in search (and-l, and-r))
 

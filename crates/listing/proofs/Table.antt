@@ -153,104 +153,105 @@ module _ (N : ℕ) (w : List ℕ) (R : ℕ) where
           counts = hc ∙ sym (ap₂ (λ (z : List ℕ) (m : ℕ). z ++ replicate m 0) counts-none d);
         }
 
-    pub state-end : (s : Bool → List ℕ) (cs : List ℕ) → State n s cs
-        → ((b : Bool) → s b ≡ listedMasks N n w R b) × (cs ≡ listedCounts N n w)
-    state-end s cs st =
-        let e : n * R - n * R ≡ 0 = omega arith in
-        let d : n - n ≡ 0 = omega arith in (
-          λ b. st .masks b ∙ ap (λ (m : ℕ). listedMasks N n w R b ++ replicate m 0) e ∙ append-nil (listedMasks N n w R b),
-          st .counts ∙ ap (λ (m : ℕ). listedCounts N n w ++ replicate m 0) d ∙ append-nil (listedCounts N n w),
-        )
+-- ---- what the loop has listed
+pub state-end : {N : ℕ} {w : List ℕ} {R n : ℕ} {s : Bool → List ℕ} {cs : List ℕ} → State N w R n n s cs
+    → ((b : Bool) → s b ≡ listedMasks N n w R b) × (cs ≡ listedCounts N n w)
+state-end {N} {w} {R} {n} {s} {cs} st =
+    let e : n * R - n * R ≡ 0 = omega arith in
+    let d : n - n ≡ 0 = omega arith in (
+      λ b. st .masks b ∙ ap (λ (m : ℕ). listedMasks N n w R b ++ replicate m 0) e ∙ append-nil (listedMasks N n w R b),
+      st .counts ∙ ap (λ (m : ℕ). listedCounts N n w ++ replicate m 0) d ∙ append-nil (listedCounts N n w),
+    )
 
-    module _ (i : ℕ) (s : Bool → List ℕ) (cs : List ℕ) (st : State i s cs) (le : i ≤ n) where
-      pub state-length : (b : Bool) → length (s b) ≡ n * R
-      state-length b =
-          let m : i * R ≤ n * R = mul-le-mul-right R le in
-          ap length (st .masks b) ∙ length-append (listedMasks N i w R b) (replicate (n * R - i * R) 0)
-          ∙ ap₂ _+_ (length-listed i b (st .fit)) (length-replicate (n * R - i * R) 0) ∙ omega arith
+module _ {N : ℕ} {w : List ℕ} {R n i : ℕ} {s : Bool → List ℕ} {cs : List ℕ} (st : State N w R n i s cs) (le : i ≤ n) where
+  pub state-length : (b : Bool) → length (s b) ≡ n * R
+  state-length b =
+      let m : i * R ≤ n * R = mul-le-mul-right R le in
+      ap length (st .masks b) ∙ length-append (listedMasks N i w R b) (replicate (n * R - i * R) 0)
+      ∙ ap₂ _+_ (length-listed N w R i b (st .fit)) (length-replicate (n * R - i * R) 0) ∙ omega arith
 
-      pub state-counts : length cs ≡ n
-      state-counts =
-          ap length (st .counts) ∙ length-append (listedCounts N i w) (replicate (n - i) 0)
-          ∙ ap₂ _+_ (length-counts i) (length-replicate (n - i) 0) ∙ omega arith
+  pub state-counts : length cs ≡ n
+  state-counts =
+      ap length (st .counts) ∙ length-append (listedCounts N i w) (replicate (n - i) 0)
+      ∙ ap₂ _+_ (length-counts N w R i) (length-replicate (n - i) 0) ∙ omega arith
 
-    module _ (i : ℕ) (s : Bool → List ℕ) (cs : List ℕ) (st : State i s cs) (lt : i < n) where
-      next-part : i * R + R ≤ n * R
-      next-part = let m : suc i * R ≤ n * R = mul-le-mul-right R lt in omega (arith, suc-mul i R)
+module _ {N : ℕ} {w : List ℕ} {R n i : ℕ} {s : Bool → List ℕ} {cs : List ℕ} (st : State N w R n i s cs) (lt : i < n) where
+  next-part : i * R + R ≤ n * R
+  next-part = let m : suc i * R ≤ n * R = mul-le-mul-right R lt in omega (arith, suc-mul i R)
 
-      pub state-part : i * R + R ≤ length (s true)
-      state-part = rw (state-length i s cs st (omega arith) true) next-part
+  pub state-part : i * R + R ≤ length (s true)
+  state-part = rw (state-length st (omega arith) true) next-part
 
-      -- every count is at most R
-      pub count-le : (k : ℕ) → getD cs k 0 ≤ R
-      count-le k = ⊎-elim listed-one past (decide (ltb k i))
-        where
-          listed-one : T (ltb k i) → getD cs k 0 ≤ R
-          listed-one t =
-              let l : k < i = ltb→lt k i t in
-              le-trans (le-of-eq (ap (λ (z : List ℕ). getD z k 0) (st .counts) ∙ count-back i k (replicate (n - i) 0) l)) (st .fit k l)
+  -- every count is at most R
+  pub count-le : (k : ℕ) → getD cs k 0 ≤ R
+  count-le k = ⊎-elim listed-one past (decide (ltb k i))
+    where
+      listed-one : T (ltb k i) → getD cs k 0 ≤ R
+      listed-one t =
+          let l : k < i = ltb→lt k i t in
+          le-trans (le-of-eq (ap (λ (z : List ℕ). getD z k 0) (st .counts) ∙ count-back N w R i k (replicate (n - i) 0) l)) (st .fit k l)
 
-          past : T (not (ltb k i)) → getD cs k 0 ≤ R
-          past t =
-              let l : i ≤ k = nltb→le k i t in
-              let e : k ≡ length (listedCounts N i w) + (k - i) = omega (arith, length-counts i) in
-              le-trans
-              (le-of-eq
-              (ap₂ (λ (z : List ℕ) (j : ℕ). getD z j 0) (st .counts) e
-              ∙ getD-append-add (listedCounts N i w) (replicate (n - i) 0) (k - i) 0
-              ∙ zero-at (n - i) (k - i)))
-              zero-le
+      past : T (not (ltb k i)) → getD cs k 0 ≤ R
+      past t =
+          let l : i ≤ k = nltb→le k i t in
+          let e : k ≡ length (listedCounts N i w) + (k - i) = omega (arith, length-counts N w R i) in
+          le-trans
+          (le-of-eq
+          (ap₂ (λ (z : List ℕ) (j : ℕ). getD z j 0) (st .counts) e
+          ∙ getD-append-add (listedCounts N i w) (replicate (n - i) 0) (k - i) 0
+          ∙ zero-at (n - i) (k - i)))
+          zero-le
 
-      -- the terms of a lower node, read back
-      pub terms-back : (c : ℕ) → c < i → termsFrom s (c * R) (getD cs c 0) ≡ rows c
-      terms-back c l = ap₂ termsOf (back true) (back false) ∙ terms-masks (rows c)
-        where
-          size : getD cs c 0 ≡ length (rows c)
-          size = ap (λ (z : List ℕ). getD z c 0) (st .counts) ∙ count-back i c (replicate (n - i) 0) l
+  -- the terms of a lower node, read back
+  pub terms-back : (c : ℕ) → c < i → termsFrom s (c * R) (getD cs c 0) ≡ rows N w R c
+  terms-back c l = ap₂ termsOf (back true) (back false) ∙ terms-masks (rows N w R c)
+    where
+      size : getD cs c 0 ≡ length (rows N w R c)
+      size = ap (λ (z : List ℕ). getD z c 0) (st .counts) ∙ count-back N w R i c (replicate (n - i) 0) l
 
-          back : (b : Bool) → take (getD cs c 0) (drop (c * R) (s b)) ≡ masksOf b (rows c)
-          back b =
-              ap₂ (λ (m : ℕ) (z : List ℕ). take m (drop (c * R) z)) size (st .masks b)
-              ∙ masks-back i c b (replicate (n * R - i * R) 0) (st .fit) l
+      back : (b : Bool) → take (getD cs c 0) (drop (c * R) (s b)) ≡ masksOf b (rows N w R c)
+      back b =
+          ap₂ (λ (m : ℕ) (z : List ℕ). take m (drop (c * R) z)) size (st .masks b)
+          ∙ masks-back N w R i c b (replicate (n * R - i * R) 0) (st .fit) l
 
-      -- node i is listed
-      pub state-more : (s′ : Bool → List ℕ) (cs′ : List ℕ) → length (rows i) ≤ R
-          → ((b : Bool) → s′ b ≡ laidAt (i * R) R (masksOf b (rows i)) (s b)) → cs′ ≡ set cs i (length (rows i)) → State (suc i) s′ cs′
-      state-more s′ cs′ h hs hc =
-          record {
-            fit = λ c l. ⊎-elim (λ (e : c ≡ i). subst (λ (d : ℕ). length (rows d) ≤ R) (sym e) h) (st .fit c) (below-suc l);
-            masks = masks-more;
-            counts = counts-more;
-          }
-        where
-          masks-more : (b : Bool) → s′ b ≡ listedMasks N (suc i) w R b ++ replicate (n * R - suc i * R) 0
-          masks-more b =
-              let F : List ℕ = listedMasks N i w R b in
-              let M : List ℕ = masksOf b (rows i) in
-              let at : ℕ = i * R in
-              let left : ℕ = n * R - i * R in
-              let len : length F ≡ at = length-listed i b (st .fit) in
-              let tk : take at (s b) ≡ F = ap (take at) (st .masks b) ∙ take-at F (replicate left 0) at len in
-              let dr : drop at (s b) ≡ replicate left 0 = ap (drop at) (st .masks b) ∙ drop-at F (replicate left 0) at len in
-              let over : take R (drop at (s b)) ≡ replicate R 0 =
-              ap (take R) dr ∙ take-zeros R left (omega (arith, next-part)) in
-              let past : drop R (drop at (s b)) ≡ replicate (left - R) 0 = ap (drop R) dr ∙ drop-zeros R left in
-              let rest : left - R ≡ n * R - suc i * R = omega (arith, suc-mul i R) in
-              hs b
-              ∙ (λ j. tk j ++ (laid M (over j) ++ past j))
-              ∙ ap₂ (λ (z : List ℕ) (m : ℕ). F ++ ((M ++ z) ++ replicate m 0)) (drop-zeros (length M) R) rest
-              ∙ sym (append-assoc F (padded R M) (replicate (n * R - suc i * R) 0))
-              ∙ ap (λ (z : List ℕ). z ++ replicate (n * R - suc i * R) 0) (sym (masks-suc i b))
+  -- node i is listed
+  pub state-more : (s′ : Bool → List ℕ) (cs′ : List ℕ) → length (rows N w R i) ≤ R
+      → ((b : Bool) → s′ b ≡ laidAt (i * R) R (masksOf b (rows N w R i)) (s b)) → cs′ ≡ set cs i (length (rows N w R i)) → State N w R n (suc i) s′ cs′
+  state-more s′ cs′ h hs hc =
+      record {
+        fit = λ c l. ⊎-elim (λ (e : c ≡ i). subst (λ (d : ℕ). length (rows N w R d) ≤ R) (sym e) h) (st .fit c) (below-suc l);
+        masks = masks-more;
+        counts = counts-more;
+      }
+    where
+      masks-more : (b : Bool) → s′ b ≡ listedMasks N (suc i) w R b ++ replicate (n * R - suc i * R) 0
+      masks-more b =
+          let F : List ℕ = listedMasks N i w R b in
+          let M : List ℕ = masksOf b (rows N w R i) in
+          let at : ℕ = i * R in
+          let left : ℕ = n * R - i * R in
+          let len : length F ≡ at = length-listed N w R i b (st .fit) in
+          let tk : take at (s b) ≡ F = ap (take at) (st .masks b) ∙ take-at F (replicate left 0) at len in
+          let dr : drop at (s b) ≡ replicate left 0 = ap (drop at) (st .masks b) ∙ drop-at F (replicate left 0) at len in
+          let over : take R (drop at (s b)) ≡ replicate R 0 =
+          ap (take R) dr ∙ take-zeros R left (omega (arith, next-part)) in
+          let past : drop R (drop at (s b)) ≡ replicate (left - R) 0 = ap (drop R) dr ∙ drop-zeros R left in
+          let rest : left - R ≡ n * R - suc i * R = omega (arith, suc-mul i R) in
+          hs b
+          ∙ (λ j. tk j ++ (laid M (over j) ++ past j))
+          ∙ ap₂ (λ (z : List ℕ) (m : ℕ). F ++ ((M ++ z) ++ replicate m 0)) (drop-zeros (length M) R) rest
+          ∙ sym (append-assoc F (padded R M) (replicate (n * R - suc i * R) 0))
+          ∙ ap (λ (z : List ℕ). z ++ replicate (n * R - suc i * R) 0) (sym (masks-suc N w R i b))
 
-          counts-more : cs′ ≡ listedCounts N (suc i) w ++ replicate (n - suc i) 0
-          counts-more =
-              let C : List ℕ = listedCounts N i w in
-              let e : n - i ≡ suc (n - suc i) = omega arith in
-              hc
-              ∙ ap (λ (z : List ℕ). set z i (length (rows i))) (st .counts ∙ ap (λ (m : ℕ). C ++ replicate m 0) e)
-              ∙ set-at C 0 (replicate (n - suc i) 0) (length (rows i)) i (length-counts i)
-              ∙ sym (append-assoc C (length (rows i) ∷ []) (replicate (n - suc i) 0))
-              ∙ ap (λ (z : List ℕ). z ++ replicate (n - suc i) 0) (sym (counts-suc i))
+      counts-more : cs′ ≡ listedCounts N (suc i) w ++ replicate (n - suc i) 0
+      counts-more =
+          let C : List ℕ = listedCounts N i w in
+          let e : n - i ≡ suc (n - suc i) = omega arith in
+          hc
+          ∙ ap (λ (z : List ℕ). set z i (length (rows N w R i))) (st .counts ∙ ap (λ (m : ℕ). C ++ replicate m 0) e)
+          ∙ set-at C 0 (replicate (n - suc i) 0) (length (rows N w R i)) i (length-counts N w R i)
+          ∙ sym (append-assoc C (length (rows N w R i) ∷ []) (replicate (n - suc i) 0))
+          ∙ ap (λ (z : List ℕ). z ++ replicate (n - suc i) 0) (sym (counts-suc N w R i))
 
 -- ---- the last node decides
 module _ (N n : ℕ) (w : List ℕ) (R : ℕ) where
@@ -270,6 +271,6 @@ module _ (N n : ℕ) (w : List ℕ) (R : ℕ) where
       let fits : length (nodePrimes N w (pred n)) ≤ R = st .fit (pred n) (omega arith) in
       record {
         answer = sym (ap not (le-ltb R (length (nodePrimes N w (pred n))) fits));
-        masks = λ e. state-end N w R n s cs st .0;
-        counts = λ e. state-end N w R n s cs st .1;
+        masks = λ e. state-end st .0;
+        counts = λ e. state-end st .1;
       }

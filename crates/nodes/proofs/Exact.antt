@@ -27,7 +27,7 @@ use Rattle.builder.specs.Made.{insertAll, madeJoins, madeDecision}
 use Rattle.builder.proofs.Complete.{inserted-primes, all-joins, made-lists}
 use Rattle.nodes.specs.Part.{nodeMade, Ready}
 
-module _ (N n : ℕ) (w : List ℕ) (acc : Accepted N n w) where
+module _ {N n : ℕ} {w : List ℕ} (acc : Accepted N n w) where
   abbrev rows : ℕ → List Term
   rows c = primes N (function w c)
 
@@ -35,7 +35,7 @@ module _ (N n : ℕ) (w : List ℕ) (acc : Accepted N n w) where
   listed c = primes-lists N (function w c)
 
   wide : N ≤ width
-  wide = variables-wide N n w acc
+  wide = variables-wide acc
 
   module _ (i : ℕ) (l : i < n) where
     -- a leaf's terms
@@ -44,17 +44,17 @@ module _ (N n : ℕ) (w : List ℕ) (acc : Accepted N n w) where
     leaf y e =
         ap (λ (z : Node). nodeTerms z (termsAt w)) (sym e)
         ∙ sym (from-children [] nodeTerms w terms-local i (children-below N n w (acc .well) i l))
-        ∙ terms-primes N n w acc i l
+        ∙ terms-primes acc i l
 
     decision-exact : (x a b : ℕ) → nodeAt w i ≡ decision x a b → insertAll (madeDecision x (rows a) (rows b)) [] ≡ rows i
     decision-exact x a b e =
-        let f : Fits N i (decision x a b) = node-fits N n w acc i (decision x a b) l e in
+        let f : Fits N i (decision x a b) = node-fits acc i (decision x a b) l e in
         let made : Lists N (conj N (function w a) (function w b)) (madeJoins true (rows a) (rows b)) =
         made-lists N wide (function w a) (function w b) (rows a) (rows b) (listed a) (listed b) in
         inserted-primes N (choice (sides w a b) x) (madeDecision x (rows a) (rows b))
-        (decision-with N wide (sides w a b) x (f .0) (decision-free N n w acc i x a b l e) (rows a) (rows b)
+        (decision-with N wide (sides w a b) x (f .0) (decision-free acc i x a b l e) (rows a) (rows b)
         (madeJoins true (rows a) (rows b)) (listed a) (listed b) made)
-        ∙ ap (primes N) (sym (function-is N n w acc i (decision x a b) l e))
+        ∙ ap (primes N) (sym (function-is acc i (decision x a b) l e))
 
     conjunction-exact : (a b : ℕ) → nodeAt w i ≡ conjunction (a ∷ b ∷ []) → insertAll (madeJoins false (rows b) (rows a)) [] ≡ rows i
     conjunction-exact a b e =
@@ -64,13 +64,13 @@ module _ (N n : ℕ) (w : List ℕ) (acc : Accepted N n w) where
         let turned : conj N g f ≡ conj N f g = (λ j s. and-comm (g s) (f s) j) in
         let apart : (x : ℕ) → x < N → Free N g x ⊎ Free N f x =
         λ x k. ⊎-elim inr inl
-        (all-apart N n w acc a (b ∷ []) (conjunction-disjoint N n w acc i (a ∷ b ∷ []) l e)
-        (conjunction-below N n w acc i (a ∷ b ∷ []) l e) x k) in
+        (all-apart acc a (b ∷ []) (conjunction-disjoint acc i (a ∷ b ∷ []) l e)
+        (conjunction-below acc i (a ∷ b ∷ []) l e) x k) in
         ap (λ (k : List Term). insertAll k []) (all-joins (rows b) (rows a))
         ∙ inserted-primes N (allOf w (a ∷ b ∷ [])) (joins (rows b) (rows a))
         (subst (λ (h : ℕ → Bool). Lists N h (joins (rows b) (rows a))) turned
         (joins-lists N wide g f (rows b) (rows a) (subst (λ (h : ℕ → Bool). Lists N h (rows b)) (sym one) (listed b)) (listed a) apart))
-        ∙ ap (primes N) (sym (function-is N n w acc i (conjunction (a ∷ b ∷ [])) l e))
+        ∙ ap (primes N) (sym (function-is acc i (conjunction (a ∷ b ∷ [])) l e))
 
     -- v gives the terms of the nodes below i
     module _ (v : ℕ → List Term) (h : (c : ℕ) → c < i → v c ≡ rows c) where
@@ -79,14 +79,14 @@ module _ (N n : ℕ) (w : List ℕ) (acc : Accepted N n w) where
       by-kind (constantKind c) x a b e = leaf (constant c) e
       by-kind (literalKind c) x a b e = leaf (literal c x) e
       by-kind decisionKind x a b e =
-          let f : Fits N i (decision x a b) = node-fits N n w acc i (decision x a b) l e in
+          let f : Fits N i (decision x a b) = node-fits acc i (decision x a b) l e in
           ap₂ (λ (p q : List Term). insertAll (madeDecision x p q) []) (h a (f .1)) (h b (f .2)) ∙ decision-exact x a b e
       by-kind conjunctionKind x a b e =
-          let f : Fits N i (conjunction (a ∷ b ∷ [])) = node-fits N n w acc i (conjunction (a ∷ b ∷ [])) l e in
+          let f : Fits N i (conjunction (a ∷ b ∷ [])) = node-fits acc i (conjunction (a ∷ b ∷ [])) l e in
           ap₂ (λ (p q : List Term). insertAll (madeJoins false q p) []) (h a (f a (List·Memᴰ·head refl)))
           (h b (f b (List·Memᴰ·tail (List·Memᴰ·head refl))))
           ∙ conjunction-exact a b e
-      by-kind unknownKind x a b e = absurd (node-fits N n w acc i unknown l e)
+      by-kind unknownKind x a b e = absurd (node-fits acc i unknown l e)
 
       pub made-exact : nodeMade (nodeAt w i) (v (childAt (nodeAt w i) 0)) (v (childAt (nodeAt w i) 1)) ≡ rows i
       unfolding nodeAt
@@ -96,13 +96,13 @@ module _ (N n : ℕ) (w : List ℕ) (acc : Accepted N n w) where
     ready-kind : (k : Kind) (x a b : ℕ) → nodeAt w i ≡ node k x a b → Ready i (node k x a b)
     ready-kind (constantKind c) x a b e = record { named = tt; left = zero-le; right = zero-le }
     ready-kind (literalKind c) x a b e =
-        let f : x < N = node-fits N n w acc i (literal c x) l e in
-        record { named = omega (arith, variables-le N n w acc); left = zero-le; right = zero-le }
+        let f : x < N = node-fits acc i (literal c x) l e in
+        record { named = omega (arith, variables-le acc); left = zero-le; right = zero-le }
     ready-kind decisionKind x a b e =
-        let f : Fits N i (decision x a b) = node-fits N n w acc i (decision x a b) l e in
-        record { named = omega (arith, variables-le N n w acc); left = omega arith; right = omega arith }
+        let f : Fits N i (decision x a b) = node-fits acc i (decision x a b) l e in
+        record { named = omega (arith, variables-le acc); left = omega arith; right = omega arith }
     ready-kind conjunctionKind x a b e =
-        let f : Fits N i (conjunction (a ∷ b ∷ [])) = node-fits N n w acc i (conjunction (a ∷ b ∷ [])) l e in
+        let f : Fits N i (conjunction (a ∷ b ∷ [])) = node-fits acc i (conjunction (a ∷ b ∷ [])) l e in
         let p : a < i = f a (List·Memᴰ·head refl) in
         let q : b < i = f b (List·Memᴰ·tail (List·Memᴰ·head refl)) in
         record { named = tt; left = omega arith; right = omega arith }

@@ -117,7 +117,7 @@ module _ (N : ℕ) (t : Term) (w : IsTerm N t) where
       go false d true e = forced-implied F x false (along (sym e) tt)
       go false d false e = open-implied F x l free (none d e)
 
-module _ (N n : ℕ) (w : List ℕ) (acc : Accepted N n w) (t : Term) (isT : IsTerm N t) where
+module _ {N n : ℕ} {w : List ℕ} (acc : Accepted N n w) (t : Term) (isT : IsTerm N t) where
   all-implied : (cs : List ℕ) → all (λ c. implicant N (function w c) t) cs ≡ implicant N (allOf w cs) t
   all-implied [] = constant-implied N t isT true
   all-implied (c ∷ cs) =
@@ -128,7 +128,7 @@ module _ (N n : ℕ) (w : List ℕ) (acc : Accepted N n w) (t : Term) (isT : IsT
   node-implied i l (constant b) e f = constant-implied N t isT b
   node-implied i l (literal b x) e f = literal-implied N t isT b x f
   node-implied i l (decision x a b) e f =
-      choice-implied N t isT (sides w a b) x (f .0) (decision-free N n w acc i x a b l e)
+      choice-implied N t isT (sides w a b) x (f .0) (decision-free acc i x a b l e)
   node-implied i l (conjunction cs) e f = all-implied cs
   node-implied i l unknown e f = absurd f
 
@@ -141,4 +141,4 @@ module _ (N n : ℕ) (w : List ℕ) (acc : Accepted N n w) (t : Term) (isT : IsT
       from-children false (nodeImplied t) w (implied-local t) i (children-below N n w (acc .well) i l)
       ∙ implied-local t (nodeAt w i) (impliedAt w t) (λ c. implicant N (function w c) t) below
       ∙ node-implied i l (nodeAt w i) refl (fits N n w (acc .well) i l)
-      ∙ ap (λ (g : ℕ → Bool). implicant N g t) (sym (function-is N n w acc i (nodeAt w i) l refl)))
+      ∙ ap (λ (g : ℕ → Bool). implicant N g t) (sym (function-is acc i (nodeAt w i) l refl)))

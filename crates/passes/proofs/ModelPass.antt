@@ -89,7 +89,7 @@ gateModels N t F S (Decision x a b) = cond (has t true x) (F b) (cond (has t fal
 gateModels N t F S (Conjunction a b) = F a / 2 ^ (N - size (S a)) * (F b / 2 ^ size (S a))
 gateModels N t F S Unknown = 0
 
-module _ (N n : ℕ) (w : List ℕ) (acc : Accepted N n w) (t : Term) (isT : IsTerm N t) where
+module _ {N n : ℕ} {w : List ℕ} (acc : Accepted N n w) (t : Term) (isT : IsTerm N t) where
   abbrev kept : ℕ → ℕ
   kept i = models N t isT (function w i)
 
@@ -109,43 +109,43 @@ module _ (N n : ℕ) (w : List ℕ) (acc : Accepted N n w) (t : Term) (isT : IsT
       side : (c : Bool) → models N t isT (λ s. signed b c) ≡ cond (cond c b (not b)) (2 ^ N) 0
       side c = models-constant N t isT (signed b c) ∙ ap (λ (v : Bool). cond v (2 ^ N) 0) (sided b c)
   node-models i l (Decision x a b) e f =
-      models-choice N t isT (sides w a b) x (f .0) (decision-free N n w acc i x a b l e)
+      models-choice N t isT (sides w a b) x (f .0) (decision-free acc i x a b l e)
   node-models i l (Conjunction a b) e f =
       models-ext N t isT (λ s. nodeValue s (conjunction (a ∷ b ∷ [])) (λ c. function w c s)) (conj N (function w a) (function w b))
       (λ s k. sym (all-two (λ c. function w c s) a b))
       ∙ models-conjunction N t isT (function w a) (function w b) (bit (support w a))
-      (λ x k h. not-under N n w acc a x (below a (branch-mem a b false)) h)
-      (λ x k h. not-under N n w acc b x (below b (branch-mem a b true)) (apart x k h))
+      (λ x k h. not-under acc a x (below a (branch-mem a b false)) h)
+      (λ x k h. not-under acc b x (below b (branch-mem a b true)) (apart x k h))
       ∙ ap (λ (k : ℕ). kept a / 2 ^ (N - k) * (kept b / 2 ^ k))
-      (sym (size-within N (support w a) (variables-wide N n w acc) (support-lt N n w (acc .well) a (below a (branch-mem a b false)))))
+      (sym (size-within N (support w a) (variables-wide acc) (support-lt N n w (acc .well) a (below a (branch-mem a b false)))))
     where
       below : (c : ℕ) → List·Memᴰ c (a ∷ b ∷ []) → c < n
-      below = conjunction-below N n w acc i (a ∷ b ∷ []) l e
+      below = conjunction-below acc i (a ∷ b ∷ []) l e
 
       apart : (x : ℕ) → x < N → T (bit (support w a) x) → T (not (bit (support w b) x))
       apart x k h =
-          let wide : N ≤ width = variables-wide N n w acc in
+          let wide : N ≤ width = variables-wide acc in
           ⊎-elim (λ (p : T (not (bit (support w a) x))). absurd (T-not (bit (support w a) x) p h))
           (λ (p : T (not (bit (bitOr (support w b) 0) x))). along (ap (λ (m : ℕ). not (bit m x)) (or-zero-r (support w b))) p)
           (disjoint-at (support w a) (bitOr (support w b) 0)
           (and-l (disjoint (support w a) (bitOr (support w b) 0)) (allDisjoint (support w) (b ∷ []))
-          (conjunction-disjoint N n w acc i (a ∷ b ∷ []) l e)) x (omega arith))
+          (conjunction-disjoint acc i (a ∷ b ∷ []) l e)) x (omega arith))
   node-models i l Unknown e f = absurd f
 
   -- what is kept of node i, from the arrays
   pub models-from : (i : ℕ) → i < n → (h : Gate) → nodeAt w i ≡ gateNode h
       → gateModels N t (λ c. scaled N (function w c) t) (support w) h ≡ scaled N (function w i) t
   models-from i l h e =
-      let wide : N ≤ width = variables-wide N n w acc in
+      let wide : N ≤ width = variables-wide acc in
       ap (λ (F : ℕ → ℕ). gateModels N t F (support w) h) (fun-ext (λ c. scaled-is N t (function w c) wide isT))
       ∙ sym
       (scaled-is N t (function w i) wide isT
-      ∙ ap (models N t isT) (function-is N n w acc i (gateNode h) l e)
-      ∙ node-models i l h e (node-fits N n w acc i (gateNode h) l e))
+      ∙ ap (models N t isT) (function-is acc i (gateNode h) l e)
+      ∙ node-models i l h e (node-fits acc i (gateNode h) l e))
 
   pub scaled-le : (i : ℕ) → scaled N (function w i) t ≤ 2 ^ N
   scaled-le i =
-      subst (λ (m : ℕ). m ≤ 2 ^ N) (sym (scaled-is N t (function w i) (variables-wide N n w acc) isT))
+      subst (λ (m : ℕ). m ≤ 2 ^ N) (sym (scaled-is N t (function w i) (variables-wide acc) isT))
       (models-le N t isT (function w i))
 
 -- only the children's entries matter
@@ -175,7 +175,7 @@ module _ {N n : ℕ} {w : List ℕ} {t : Term} {sup : List ℕ} (p : ModelPass N
   acc = accepted-e N n w (p .table)
 
   pub pass-narrow : N ≤ 40
-  pass-narrow = variables-le N n w acc
+  pass-narrow = variables-le acc
 
   pub pass-readable : Readable n w
   pass-readable = (N, accepted-sound N n w acc)
@@ -184,7 +184,7 @@ module _ {N n : ℕ} {w : List ℕ} {t : Term} {sup : List ℕ} (p : ModelPass N
     pub entry-le : (c : ℕ) → c < i → getD m c 0 ≤ 2 ^ 40
     entry-le c k =
         subst (λ (z : ℕ). z ≤ 2 ^ 40) (sym (held c k))
-        (le-trans (scaled-le N n w acc t (isTerm-e N t (p .over)) c) (pow-mono (variables-le N n w acc)))
+        (le-trans (scaled-le acc t (isTerm-e N t (p .over)) c) (pow-mono (variables-le acc)))
 
     pub models-array : {g h : Gate} → gateNode g ≡ nodeAt w i → g ≡ h
         → gateModels N t (λ c. getD m c 0) (λ c. getD sup c 0) h ≡ scaled N (function w i) t
@@ -194,15 +194,15 @@ module _ {N n : ℕ} {w : List ℕ} {t : Term} {sup : List ℕ} (p : ModelPass N
         (λ c k. let b : c < i =
         children-below N n w (acc .well) i l c (subst (λ (y : Node). List·Memᴰ c (children y)) (sym node) k) in
         (held c b, p .under c (omega arith)))
-        ∙ models-from N n w acc t (isTerm-e N t (p .over)) i l h node
+        ∙ models-from acc t (isTerm-e N t (p .over)) i l h node
 
     pub result-le : scaled N (function w i) t ≤ 2 ^ 40
-    result-le = le-trans (scaled-le N n w acc t (isTerm-e N t (p .over)) i) (pow-mono (variables-le N n w acc))
+    result-le = le-trans (scaled-le acc t (isTerm-e N t (p .over)) i) (pow-mono (variables-le acc))
 
   pub own-le : (c : ℕ) → c < n → size (getD sup c 0) ≤ N
   own-le c k =
       let e : size (getD sup c 0) ≡ count N (bit (support w c)) =
-      ap size (p .under c k) ∙ size-within N (support w c) (variables-wide N n w acc) (support-lt N n w (acc .well) c k) in
+      ap size (p .under c k) ∙ size-within N (support w c) (variables-wide acc) (support-lt N n w (acc .well) c k) in
       omega (arith, count-not N (bit (support w c)))
 
 -- what an accepted table gives
@@ -213,8 +213,8 @@ module _ (N n : ℕ) (w : List ℕ) (e : check N n w ≡ accepted) where
   pub literals-le : (t : Term) → T (isTerm N t) → literals t ≤ 40
   literals-le t h =
       let acc : Accepted N n w = accepted-e N n w e in
-      let l : N ≤ 40 = variables-le N n w acc in
-      omega (arith, literals-are N t (variables-wide N n w acc) (isTerm-e N t h), count-not N (mentions t))
+      let l : N ≤ 40 = variables-le acc in
+      omega (arith, literals-are N t (variables-wide acc) (isTerm-e N t h), count-not N (mentions t))
 
 pub unscaled : (N : ℕ) (f : ℕ → Bool) (t : Term) (v k : ℕ) → v ≡ scaled N f t → k ≡ literals t → v / 2 ^ k ≡ modelsUnder N f t
 unscaled N f t v k e d =

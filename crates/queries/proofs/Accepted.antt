@@ -28,13 +28,13 @@ use Rattle.queries.specs.Queries.{circuit, assignmentTerm}
 -- ---- an accepted circuit
 module _ (N n : ℕ) (w : List ℕ) (e : check N n w ≡ accepted) where
   pub accepted-narrow : N ≤ 40
-  accepted-narrow = variables-le N n w (accepted-e N n w e)
+  accepted-narrow = variables-le (accepted-e N n w e)
 
   -- the implicant pass, for the whole circuit
   pub implied-circuit : (t : Term) → T (isTerm N t) → impliedAt w t (pred n) ≡ implicant N (circuit n w) t
   implied-circuit t h =
       let s = accepted-readable N n w e .1 in
-      implied-is N n w (accepted-e N n w e) t (isTerm-e N t h) (pred n) (pred-lt n (s .first))
+      implied-is (accepted-e N n w e) t (isTerm-e N t h) (pred n) (pred-lt n (s .first))
     where
       pred-lt : (n : ℕ) → 1 ≤ n → pred n < n
       pred-lt zero l = absurd (omega arith)

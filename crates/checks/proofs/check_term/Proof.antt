@@ -38,7 +38,7 @@ is-term-requires c κs =
     let s = start p in
     let e = went-on p (c .enum-told .given .1) in
     let k : s .args .variables ≤ maxVariables =
-    variables-le (s .args .variables) (s .args .nodes) (s .args .words .now) (accepted-e _ _ _ e) in
+    variables-le (accepted-e _ _ _ e) in
     omega arith
 
 returns : tie.Need-returns

@@ -73,13 +73,13 @@ accepts s = let x = s .args in accepted-e (x .variables) (x .n) (x .words .now) 
 sizes : (a : Loop) (b : Bool) → length (now a b) ≡ start a .args .n * start a .args .capacity
 sizes a b =
     let x = start a .args in
-    state-length (x .variables) (x .words .now) (x .capacity) (x .n) (a .loop .i) (now a) (a .loop .counts) (a .loop .inv .1)
+    state-length (a .loop .inv .1)
     (a .loop .inv .0) b
 
 counted : (a : Loop) → length (a .loop .counts) ≡ start a .args .n
 counted a =
     let x = start a .args in
-    state-counts (x .variables) (x .words .now) (x .capacity) (x .n) (a .loop .i) (now a) (a .loop .counts) (a .loop .inv .1)
+    state-counts (a .loop .inv .1)
     (a .loop .inv .0)
 
 zeros : (s : Start) (b : Bool) → length (bySign (s .args .positives .now) (s .args .negatives .now) b) ≡ s .args .n * s .args .capacity
@@ -101,9 +101,9 @@ told p r e =
     let lt : i < x .n = tested p in
     let made : nodeTermsFrom (nodeAt (x .words .now) i) (x .capacity) (a .loop .counts) (now a)
     ≡ nodePrimes (x .variables) (x .words .now) i =
-    made-exact (x .variables) (x .n) (x .words .now) (accepts (start a)) i lt
+    made-exact (accepts (start a)) i lt
     (λ c. termsFrom (now a) (c * x .capacity) (getD (a .loop .counts) c 0))
-    (terms-back (x .variables) (x .words .now) (x .capacity) (x .n) i (now a) (a .loop .counts) (a .loop .inv .1) lt) in
+    (terms-back (a .loop .inv .1) lt) in
     subst (λ (q : Kept). PartFilled (nodePrimes (x .variables) (x .words .now) i) (i * x .capacity) (x .capacity) (now a) (then p) q) e
     (subst (λ (l : List Term). PartFilled l (i * x .capacity) (x .capacity) (now a) (then p) (p .fill-node .result)) made
     (p .fill-node .ensures))
@@ -151,19 +151,19 @@ fill-node-requires c κs =
     let x = s .args in
     let lt : a .loop .i < x .n = c .before .before .before .before .before .before .before .loop-test .taken in
     let acc = accepts s in
-    let most : x .n ≤ 1024 = nodes-le (x .variables) (x .n) (x .words .now) acc in
-    let enough : 4 * x .n ≤ length (x .words .now) = words-enough (x .variables) (x .n) (x .words .now) acc in
+    let most : x .n ≤ 1024 = nodes-le acc in
+    let enough : 4 * x .n ≤ length (x .words .now) = words-enough acc in
     let long : length (a .loop .counts) ≡ x .n = counted a in (
       (omega arith, s .pre .0 .1, omega arith, omega arith),
       (
         (
-          ready (x .variables) (x .n) (x .words .now) acc (a .loop .i) lt,
+          ready acc (a .loop .i) lt,
           λ k _.
-              count-le (x .variables) (x .words .now) (x .capacity) (x .n) (a .loop .i) (now a) (a .loop .counts) (a .loop .inv .1) lt k,
+              count-le (a .loop .inv .1) lt k,
         ),
         (
           (
-            state-part (x .variables) (x .words .now) (x .capacity) (x .n) (a .loop .i) (now a) (a .loop .counts) (a .loop .inv .1) lt,
+            state-part (a .loop .inv .1) lt,
             sizes a false ∙ sym (sizes a true),
           ),
           a .loop .inv .2,
@@ -202,7 +202,7 @@ returns c =
     let over : x .capacity < length (nodePrimes (x .variables) (x .words .now) (a .loop .i)) =
     kept-full (x .capacity) (nodePrimes (x .variables) (x .words .now) (a .loop .i)) (told p Full (c .enum-told .given .1) .answer) in
     tried-full (x .variables) (x .n) (x .words .now) (x .capacity) (then p) (a .loop .counts)
-    (lt-of-lt-of-le over (no-more (x .variables) (x .n) (x .words .now) (accepts s) (a .loop .i) lt))
+    (lt-of-lt-of-le over (no-more (accepts s) (a .loop .i) lt))
 
 cast-counts : tie.Need-cast-counts Inv-loop μ-loop
 cast-counts c =
@@ -215,7 +215,7 @@ mul-counts c =
     let p = kept (c .before) in
     let s = start (turn p) in
     let x = s .args in
-    omega (arith, nodes-le (x .variables) (x .n) (x .words .now) (accepts s), tested p)
+    omega (arith, nodes-le (accepts s), tested p)
 
 slice-write-counts : tie.Need-slice-write-counts Inv-loop μ-loop
 slice-write-counts c =
@@ -228,7 +228,7 @@ add-i c =
     let p = kept (c .before) in
     let s = start (turn p) in
     let x = s .args in
-    omega (arith, nodes-le (x .variables) (x .n) (x .words .now) (accepts s), tested p)
+    omega (arith, nodes-le (accepts s), tested p)
 
 loop-less : tie.Need-loop-less Inv-loop μ-loop
 loop-less c = search needs
@@ -245,7 +245,7 @@ loop-again c =
     let k : ℕ = d .c .given .0 .0 in (
       omega arith,
       subst (λ (m : ℕ). State (x .variables) (x .words .now) (x .capacity) (x .n) m (then p) (set (a .loop .counts) i k)) (sym (add-one i))
-          (state-more (x .variables) (x .words .now) (x .capacity) (x .n) i (now a) (a .loop .counts) (a .loop .inv .1) lt (then p)
+          (state-more (a .loop .inv .1) lt (then p)
           (set (a .loop .counts) i k) (count d .0) (told p (Count k) (d .c .given .1) .masks (count d .0))
           (ap (set (a .loop .counts) i) (count d .1))),
       (
@@ -272,7 +272,7 @@ returns-2 c =
     let x = s .args in
     let e : a .loop .i ≡ x .n = omega arith in
     tried-all (x .variables) (x .n) (x .words .now) (x .capacity) (now a) (a .loop .counts)
-    (nodes-some (x .variables) (x .n) (x .words .now) (accepts s))
+    (nodes-some (accepts s))
     (subst (λ (m : ℕ). State (x .variables) (x .words .now) (x .capacity) (x .n) m (now a) (a .loop .counts)) e (a .loop .inv .1))
 
 pub fill-all-spec : {M : Type 1} → statement M

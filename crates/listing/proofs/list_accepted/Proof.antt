@@ -23,7 +23,7 @@ accepts : (s : tie.Start) → Accepted (s .args .variables) (s .args .n) (s .arg
 accepts s = accepted-e (s .args .variables) (s .args .n) (s .args .words .now) (s .pre)
 
 most : (s : tie.Start) → s .args .n ≤ maxNodes
-most s = nodes-le (s .args .variables) (s .args .n) (s .args .words .now) (accepts s)
+most s = nodes-le (accepts s)
 
 -- what the test of the buffers said
 tested : (h : tie.After-is-enough) (b : Bool) → not (h .is-enough .result) ≡ b

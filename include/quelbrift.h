@@ -1,26 +1,27 @@
 /*
- * Quelbrift: rule circuits of feeder container ships. Link libquelbrift.a (rt staticlib quelbrift; x86-64).
+ * Quelbrift: rule circuits of feeder container ships. Link libquelbrift.a (x86-64; README.md builds it):
+ *     cc -std=c11 -Iinclude program.c target/staticlib/libquelbrift.a -o program
+ * examples/list.c is a whole program.
  *
- * Every function takes any numbers and any contents of the buffers, ends, and does its work or refuses by a number. A buffer is a
- * pointer and then its length in elements. What is asked of the caller is what C asks of every array: the pointer is not NULL (not
- * even where the length is 0) and has that many elements, and a buffer that is written overlaps no other. No function keeps a
- * pointer or state; calls from several threads at once do not disturb one another. A call needs at most 256 KiB of stack.
+ * Calls. Every function takes any numbers and any contents of the buffers. It ends, and does its work or refuses by a number. A
+ * buffer is a pointer and then its length in elements. The caller answers for what C asks of every array: the pointer is not NULL,
+ * not even where the length is 0; it has that many elements; a buffer that is written overlaps no other. No function keeps a
+ * pointer or state, and calls from several threads at once do not disturb one another. A call needs at most 256 KiB of stack.
  *
- * Words of the trade and of the field: a fact is a variable, a stow an assignment, a row a term, a clearance a prime implicant.
- * An assignment is a mask: bit i is set where variable i is true (the fact is yes). A term is two masks, positive (marked yes) and
- * negative (marked no).
+ * Words. A fact of the trade is a variable here, a stow an assignment, a row a term, a clearance a prime implicant. An assignment
+ * is a mask: bit i is set where variable i is true (the fact is yes). A term is two masks: positive (marked yes) and negative
+ * (marked no).
  *
- * A circuit is a table of u32 words, four a node: kind, variable, a, b; node i stands at word 4 * i, the last node is the whole
- * circuit. Kinds: 0 false, 1 true, 2 yes, 3 no, 4 pick (a where the variable is false, b where it is true), 5 both. An unused word
- * is 0, and children stand below their parent. Tables hold 1 to 1,024 nodes over 1 to 40 variables.
+ * Tables. A circuit is a table of uint32_t words, four a node: kind, variable, a, b. Node i stands at word 4 * i; the last node is
+ * the whole circuit. Kinds: 0 false, 1 true, 2 yes, 3 no, 4 pick (a where the variable is false, b where it is true), 5 both. An
+ * unused word is 0, and children stand below their parent.
  *
- * A circuit text is at most 40,000 bytes of lines, each ended by byte 10: first (circuit N), N the number of variables, then one or
- * more forms:
+ * Texts. A circuit text is made of lines, each ended by byte 10: first (circuit N), N the number of variables, then one or more
+ * forms:
  *     (true)  (false)  (yes V)  (no V)  (pick V F F)  (both F F)  (line K)
- * V is a variable, below N; F a form; K the number of an earlier line, the first after the header being 0. A line's own form is not
- * line. One space stands between parts, none elsewhere; brackets go at most 16 deep; a number has one to four digits and no leading
- * zero. A node is made at each closing bracket, so children first, the left before the right; (line K) makes none, it means the
- * node of line K's own form.
+ * V is a variable, below N. F is a form. K is the number of an earlier line, the first after the header being 0. A line's own form
+ * is not line. One space stands between parts, none elsewhere. A number has one to four digits and no leading zero. Each closing
+ * bracket makes a node: children first, the left before the right. Only (line K) makes none: it means the node of line K's form.
  */
 #ifndef QUELBRIFT_H
 #define QUELBRIFT_H
@@ -31,6 +32,28 @@
 #ifdef __cplusplus
 extern "C" {
 #endif
+
+/* The version of this header: raised whenever it, or an answer, changes. quelbrift_version() gives the archive's. */
+#define QUELBRIFT_VERSION 1
+
+/* The limits. */
+#define QUELBRIFT_MAX_VARIABLES 40   /* the variables of a table: 1 to 40 */
+#define QUELBRIFT_MAX_NODES 1024     /* its nodes: 1 to 1,024 */
+#define QUELBRIFT_NODE_WORDS 4       /* the words of a node */
+#define QUELBRIFT_MAX_CAPACITY 4096  /* the capacity (room) of a listing: 0 to 4,096 */
+#define QUELBRIFT_MAX_TEXT 40000     /* the bytes of a circuit text */
+#define QUELBRIFT_MAX_DEPTH 16       /* how deep its brackets go */
+#define QUELBRIFT_MAX_LINE 117       /* the bytes of the longest stow line that is accepted */
+
+/*
+ * How many elements a buffer needs. No call needs more than:
+ *     words                    QUELBRIFT_WORDS(QUELBRIFT_MAX_NODES), 4,096
+ *     sink                     QUELBRIFT_MAX_TEXT, 40,000: every well-formed table's text fits
+ *     positives and negatives  QUELBRIFT_ENTRIES(QUELBRIFT_MAX_NODES, QUELBRIFT_MAX_CAPACITY), 4,194,304 each (32 MiB each)
+ *     counts                   QUELBRIFT_MAX_NODES, 1,024
+ */
+#define QUELBRIFT_WORDS(nodes) ((size_t)(nodes) * QUELBRIFT_NODE_WORDS)
+#define QUELBRIFT_ENTRIES(nodes, capacity) ((size_t)(nodes) * (size_t)(capacity))
 
 /*
  * number  0: the work is done; else the number of the refusal
@@ -72,6 +95,37 @@ enum {
     QUELBRIFT_LINE_SHAPE = 51, /* wrong shape, placed as 11 */
     QUELBRIFT_LINE_ORDER = 52  /* a variable out of range, or not above the one before; the byte after it */
 };
+
+/* A text for each number, for messages. */
+static inline const char *quelbrift_text(uint32_t number)
+{
+    switch (number) {
+    case QUELBRIFT_DONE: return "done";
+    case QUELBRIFT_LENGTH: return "the circuit text is too long";
+    case QUELBRIFT_SHAPE: return "the circuit text has the wrong shape";
+    case QUELBRIFT_RANGE: return "a number of facts, or a fact, is out of range";
+    case QUELBRIFT_REFERENCE: return "not the number of an earlier line";
+    case QUELBRIFT_DEPTH: return "brackets go too deep";
+    case QUELBRIFT_NODES: return "no room for another node";
+    case QUELBRIFT_SINK: return "the text does not fit the sink";
+    case QUELBRIFT_SIZES: return "facts, nodes or words are out of range";
+    case QUELBRIFT_MALFORMED: return "a node is malformed";
+    case QUELBRIFT_PARENTLESS: return "a node is nobody's child";
+    case QUELBRIFT_UNDECOMPOSABLE: return "a fact is where it must not be: under both children, or under its own pick";
+    case QUELBRIFT_UNREDUCED: return "a child is false that must not be";
+    case QUELBRIFT_ASSIGNMENT: return "the stow has a fact out of range";
+    case QUELBRIFT_NOT_TERM: return "the row has a fact out of range, or one marked both yes and no";
+    case QUELBRIFT_UNSATISFIED: return "the stow is not allowed";
+    case QUELBRIFT_BUFFERS: return "the room is too large, or a buffer too short for it";
+    case QUELBRIFT_CAPACITY: return "more clearances than the room";
+    case QUELBRIFT_LINE_SHAPE: return "the stow line has the wrong shape";
+    case QUELBRIFT_LINE_ORDER: return "a fact of the stow line is out of range or out of order";
+    default: return "no number of Quelbrift";
+    }
+}
+
+/* The version of the archive; it fits this header if it is QUELBRIFT_VERSION. */
+uint32_t quelbrift_version(void);
 
 /*
  * Reads a circuit text into words, at most 1,024 nodes or a quarter of the words.

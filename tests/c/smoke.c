@@ -363,6 +363,24 @@ static void check_read_assignment(void)
     }
 }
 
+static void check_version(void)
+{
+    EXPECT(quelbrift_version() == QUELBRIFT_VERSION);
+}
+
+/* Every number has a text of its own. */
+static void check_texts(void)
+{
+    static const uint32_t numbers[] = {0, 10, 11, 12, 13, 14, 15, 16, 21, 22, 23, 24, 25, 31, 32, 33, 41, 42, 51, 52};
+    for (call = 0; call < LENGTH(numbers); call++) {
+        EXPECT(strcmp(quelbrift_text(numbers[call]), quelbrift_text(1)) != 0);
+        for (size_t other = 0; other < call; other++) {
+            EXPECT(strcmp(quelbrift_text(numbers[call]), quelbrift_text(numbers[other])) != 0);
+        }
+    }
+    EXPECT(strcmp(quelbrift_text(1), quelbrift_text(UINT32_MAX)) == 0);
+}
+
 static void run(void (*operation)(void))
 {
     call = 0;
@@ -384,6 +402,8 @@ int main(void)
     run(check_list_refusals);
     run(check_view);
     run(check_read_assignment);
+    run(check_version);
+    run(check_texts);
     if (failed > 0) {
         printf("%u checks failed, %u passed\n", failed, passed);
         return 1;

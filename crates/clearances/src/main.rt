@@ -1,6 +1,8 @@
-// Prints the prime implicants ("clearances") of the circuit whose text stands on standard input.
-use console::print;
-use libc::STDIN_FILENO;
+// Prints the prime implicants ("clearances") of the circuit whose text stands on standard input. A read or a write that fails is told
+// on standard error. Every function that prints answers whether all of it went.
+use console::input::Input;
+use console::tell;
+use console::write;
 use listing::Listing;
 use output::refusals::fault_line;
 use output::refusals::table_refusal_line;
@@ -17,54 +19,59 @@ const CAPACITY: u32 = 64;
 
 const ENTRIES: usize = 4096;
 
-fn print_term(positive: u64, negative: u64) {
+fn print_term(positive: u64, negative: u64) -> bool {
     let mut line = [0u8; 512];
     let n = output::term_line(&mut line, Term { positive, negative });
-    print(&line, n);
+    write(&line, n)
 }
 
-fn print_refusal(why: Refusal) {
+fn print_refusal(why: Refusal) -> bool {
     let mut line = [0u8; 512];
     let n = table_refusal_line(&mut line, why);
-    print(&line, n);
+    write(&line, n)
 }
 
-fn print_count(count: u32) {
+fn print_count(count: u32) -> bool {
     let mut line = [0u8; 512];
     let n = output::count_line(&mut line, count);
-    print(&line, n);
+    write(&line, n)
 }
 
-// A line for each term.
-fn print_terms(positives: &[u64], negatives: &[u64]) {
+// A line for each term, up to the first that does not go.
+fn print_terms(positives: &[u64], negatives: &[u64]) -> bool {
     let mut k = 0;
     while k < positives.len() {
         if k < negatives.len() {
-            print_term(positives[k], negatives[k]);
+            if !print_term(positives[k], negatives[k]) {
+                return false;
+            }
         }
         k += 1;
     }
+    true
 }
 
 // The terms of the last of the nodes, which is the circuit.
-fn print_last(positives: &[u64], negatives: &[u64], counts: &[u32], nodes: u32) {
+fn print_last(positives: &[u64], negatives: &[u64], counts: &[u32], nodes: u32) -> bool {
     if nodes < 1 {
-        return;
+        return false;
     }
     let last = nodes - 1;
     if counts.len() <= last as usize {
-        return;
+        return false;
     }
     let count = counts[last as usize];
-    print_count(count);
+    if !print_count(count) {
+        return false;
+    }
     print_terms(
         listing::view(positives, CAPACITY, last, count),
         listing::view(negatives, CAPACITY, last, count),
-    );
+    )
 }
 
 // Lists the circuit and prints its terms, or the refusal.
-fn print_circuit(words: &[u32], variables: u32, nodes: u32) {
+fn print_circuit(words: &[u32], variables: u32, nodes: u32) -> bool {
     let mut positives = [0u64; ENTRIES];
     let mut negatives = [0u64; ENTRIES];
     let mut counts = [0u32; NODES];
@@ -82,16 +89,27 @@ fn print_circuit(words: &[u32], variables: u32, nodes: u32) {
     }
 }
 
-fn main() {
-    let mut text = [0u8; MAX_BYTES + 1];
-    let length = io::read_full(STDIN_FILENO, &mut text);
+// Reads the text and prints the answer.
+fn print_answer(text: &[u8]) -> bool {
     let mut words = [0u32; NODE_WORDS * NODES];
-    match text_reader::reader::read(&text[..length], &mut words) {
+    match text_reader::reader::read(text, &mut words) {
         Reading::Refused(fault, place) => {
             let mut line = [0u8; 512];
             let n = fault_line(&mut line, fault, place);
-            print(&line, n);
+            write(&line, n)
         }
         Reading::Circuit(variables, nodes) => print_circuit(&words, variables, nodes),
+    }
+}
+
+fn main() {
+    let mut text = [0u8; MAX_BYTES + 1];
+    match console::input::read_input(&mut text) {
+        Input::Failed => tell(b"clearances: standard input could not be read\n"),
+        Input::Bytes(length) => {
+            if !print_answer(&text[..length]) {
+                tell(b"clearances: standard output could not be written; it is cut\n");
+            }
+        }
     }
 }

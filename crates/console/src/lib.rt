@@ -1,9 +1,23 @@
-// Printing for the programs.
+// Standard input, output and error for the programs.
+pub mod input;
+
+use libc::STDERR_FILENO;
 use libc::STDOUT_FILENO;
 
-// Prints the first n bytes of a line.
-pub fn print(line: &[u8], n: usize) {
+// Writes the first n bytes of a line to standard output: whether all of them went.
+pub fn write(line: &[u8], n: usize) -> bool {
     if n <= line.len() {
-        io::write_all(STDOUT_FILENO, &line[..n]);
+        return io::write_all(STDOUT_FILENO, &line[..n]);
     }
+    false
+}
+
+// The same where nobody asks whether it went.
+pub fn print(line: &[u8], n: usize) {
+    write(line, n);
+}
+
+// Writes a message to standard error.
+pub fn tell(message: &[u8]) {
+    io::write_all(STDERR_FILENO, message);
 }

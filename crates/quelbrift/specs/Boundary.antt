@@ -8,6 +8,10 @@ use Rattle.table.specs.Outcome.{Outcome, answered, refused}
 use Rattle.terms.specs.declared.Term.{Term}
 use Rattle.quelbrift.specs.declared.answer.Answer.{Answer}
 
+-- raised whenever an exported function or an answer changes
+abbrev pub version : ℕ
+version = 1
+
 abbrev pub doneWith : ℕ → ℕ → Answer
 doneWith first second = record { number = 0; place = 0; first = first; second = second }
 

@@ -10,7 +10,7 @@ ghost use Rattle.circuits.specs.Check.{check};
 ghost use Rattle.queries.specs.Answers.{tested};
 ghost use Rattle.queries.specs.Queries.{evaluation, modelCount, implicantTest, primeTest, reduction};
 ghost use Rattle.listing.specs.Listing.{lent, listTable, viewed};
-ghost use Rattle.quelbrift.specs.Boundary.{answerOf, nothing, number, numbers, truth, masks, placed};
+ghost use Rattle.quelbrift.specs.Boundary.{version, answerOf, nothing, number, numbers, truth, masks, placed};
 
 mod answer;
 
@@ -30,6 +30,16 @@ use text::answer::AssignmentReading;
 use text::answer::Reading;
 use text::answer::fault_number;
 use text_writer::writer::Written;
+
+// The version of these functions and their answers: QUELBRIFT_VERSION in the header.
+const VERSION: u32 = 1;
+
+#[no_mangle]
+pub extern "C" fn quelbrift_version() -> u32
+    ensures { λ r. ⌜ r ≡ version ⌝ }
+{
+    VERSION
+}
 
 // Reads a circuit text into the words: the numbers of variables and of nodes.
 #[no_mangle]

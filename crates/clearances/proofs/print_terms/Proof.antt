@@ -29,6 +29,9 @@ shared-slice-read-print-term-2 c = search needs
 print-term-requires : tie.Need-print-term-requires Inv-loop μ-loop
 print-term-requires c κs = search needs
 
+returns : tie.Need-returns Inv-loop μ-loop
+returns c = search needs
+
 add-k : tie.Need-add-k Inv-loop μ-loop
 add-k c = search needs
 
@@ -38,8 +41,8 @@ loop-less c = search needs
 loop-again : tie.Need-loop-again Inv-loop μ-loop
 loop-again c = search needs
 
-returns : tie.Need-returns Inv-loop μ-loop
-returns c = search needs
+returns-2 : tie.Need-returns-2 Inv-loop μ-loop
+returns-2 c = search needs
 
 pub print-terms-spec : {M : Type 1} → statement M
 print-terms-spec =
@@ -53,7 +56,8 @@ print-terms-spec =
     mul-print-term-2
     shared-slice-read-print-term-2
     print-term-requires
+    returns
     add-k
     loop-less
     loop-again
-    returns)
+    returns-2)

@@ -1,21 +1,23 @@
-//! Safe functions over the exported ones: slices and numbers in, a value or a refusal out. `include/quelbrift.h` says what each does.
+//! Safe functions over those of `libquelbrift.a`: slices and numbers in, a value or a refusal out. `include/quelbrift.h` says what each
+//! does, and what it leaves in each buffer.
 
-/// The answer of every exported function, as the archive returns it.
-#[repr(C)]
-#[derive(Clone, Copy, Debug, PartialEq, Eq)]
-pub struct Answer {
-    pub number: u32,
-    pub place: u64,
-    pub first: u64,
-    pub second: u64,
-}
+mod answer;
+mod exported;
+mod refusal;
 
-/// The number of a refusal, and its byte, node or needed length.
-#[derive(Clone, Copy, Debug, PartialEq, Eq)]
-pub struct Refusal {
-    pub number: u32,
-    pub place: u64,
-}
+pub use refusal::{Place, Refusal};
+
+/// The version that this wrapper is written for; `version` gives the archive's.
+pub const VERSION: u32 = 1;
+
+/// The limits of the header.
+pub const MAX_VARIABLES: u32 = 40;
+pub const MAX_NODES: u32 = 1024;
+pub const NODE_WORDS: usize = 4;
+pub const MAX_CAPACITY: u32 = 4096;
+pub const MAX_TEXT: usize = 40_000;
+pub const MAX_DEPTH: u32 = 16;
+pub const MAX_LINE: usize = 117;
 
 /// A row: the masks of the variables marked yes and of those marked no.
 #[derive(Clone, Copy, Debug, PartialEq, Eq, Hash)]
@@ -32,65 +34,9 @@ pub struct Table<'a> {
     pub nodes: u32,
 }
 
-mod exported {
-    use super::Answer;
-    extern "C" {
-        pub fn quelbrift_read(text: *const u8, length: usize, words: *mut u32, room: usize) -> Answer;
-        pub fn quelbrift_write(words: *const u32, length: usize, variables: u32, nodes: u32, sink: *mut u8, room: usize) -> Answer;
-        pub fn quelbrift_check(words: *const u32, length: usize, variables: u32, nodes: u32) -> Answer;
-        pub fn quelbrift_evaluate(words: *const u32, length: usize, variables: u32, nodes: u32, assignment: u64) -> Answer;
-        pub fn quelbrift_count_models(words: *const u32, length: usize, variables: u32, nodes: u32) -> Answer;
-        pub fn quelbrift_implies(words: *const u32, length: usize, variables: u32, nodes: u32, positive: u64, negative: u64) -> Answer;
-        pub fn quelbrift_is_prime(words: *const u32, length: usize, variables: u32, nodes: u32, positive: u64, negative: u64) -> Answer;
-        pub fn quelbrift_reduce(words: *const u32, length: usize, variables: u32, nodes: u32, assignment: u64) -> Answer;
-        pub fn quelbrift_list(
-            words: *const u32,
-            length: usize,
-            variables: u32,
-            nodes: u32,
-            capacity: u32,
-            positives: *mut u64,
-            positives_length: usize,
-            negatives: *mut u64,
-            negatives_length: usize,
-            counts: *mut u32,
-            counts_length: usize,
-        ) -> Answer;
-        pub fn quelbrift_view(buffer: *const u64, length: usize, capacity: u32, node: u32, count: u32) -> Answer;
-        pub fn quelbrift_read_assignment(line: *const u8, length: usize, variables: u32) -> Answer;
-    }
-}
-
-impl Answer {
-    /// The values where the work is done. A refusal has none, and work that is done has no place.
-    fn values(self) -> Result<(u64, u64), Refusal> {
-        if self.number == 0 {
-            assert_eq!(self.place, 0, "work that is done has no place: {self:?}");
-            return Ok((self.first, self.second));
-        }
-        assert_eq!((self.first, self.second), (0, 0), "a refusal has no values: {self:?}");
-        Err(Refusal { number: self.number, place: self.place })
-    }
-
-    /// The one value.
-    fn value(self) -> Result<u64, Refusal> {
-        let (first, second) = self.values()?;
-        assert_eq!(second, 0, "one value: {self:?}");
-        Ok(first)
-    }
-
-    /// No value.
-    fn nothing(self) -> Result<(), Refusal> {
-        assert_eq!(self.value()?, 0, "no value: {self:?}");
-        Ok(())
-    }
-
-    /// Yes or no.
-    fn truth(self) -> Result<bool, Refusal> {
-        let first = self.value()?;
-        assert!(first < 2, "0 or 1: {self:?}");
-        Ok(first == 1)
-    }
+/// The version of the archive; it fits this wrapper if it is `VERSION`.
+pub fn version() -> u32 {
+    unsafe { exported::quelbrift_version() }
 }
 
 /// Reads a circuit text: the numbers of variables and of nodes.

@@ -1,0 +1,30 @@
+//! The exported functions as `include/quelbrift.h` declares them.
+
+use crate::answer::Answer;
+
+extern "C" {
+    pub fn quelbrift_version() -> u32;
+    pub fn quelbrift_read(text: *const u8, length: usize, words: *mut u32, room: usize) -> Answer;
+    pub fn quelbrift_write(words: *const u32, length: usize, variables: u32, nodes: u32, sink: *mut u8, room: usize) -> Answer;
+    pub fn quelbrift_check(words: *const u32, length: usize, variables: u32, nodes: u32) -> Answer;
+    pub fn quelbrift_evaluate(words: *const u32, length: usize, variables: u32, nodes: u32, assignment: u64) -> Answer;
+    pub fn quelbrift_count_models(words: *const u32, length: usize, variables: u32, nodes: u32) -> Answer;
+    pub fn quelbrift_implies(words: *const u32, length: usize, variables: u32, nodes: u32, positive: u64, negative: u64) -> Answer;
+    pub fn quelbrift_is_prime(words: *const u32, length: usize, variables: u32, nodes: u32, positive: u64, negative: u64) -> Answer;
+    pub fn quelbrift_reduce(words: *const u32, length: usize, variables: u32, nodes: u32, assignment: u64) -> Answer;
+    pub fn quelbrift_list(
+        words: *const u32,
+        length: usize,
+        variables: u32,
+        nodes: u32,
+        capacity: u32,
+        positives: *mut u64,
+        positives_length: usize,
+        negatives: *mut u64,
+        negatives_length: usize,
+        counts: *mut u32,
+        counts_length: usize,
+    ) -> Answer;
+    pub fn quelbrift_view(buffer: *const u64, length: usize, capacity: u32, node: u32, count: u32) -> Answer;
+    pub fn quelbrift_read_assignment(line: *const u8, length: usize, variables: u32) -> Answer;
+}

@@ -1,0 +1,75 @@
+//! The wrapper says what `include/quelbrift.h` says: numbers with their texts, limits, version; and a refusal is shown in full.
+
+use quelbrift::Refusal;
+use std::collections::HashMap;
+
+const HEADER: &str = include_str!("../../include/quelbrift.h");
+
+/// The numbers of the header's `enum`, by name.
+fn numbers() -> HashMap<&'static str, u32> {
+    let pairs = HEADER.lines().filter_map(|line| line.trim().strip_prefix("QUELBRIFT_")?.split_once(" = "));
+    pairs.map(|(name, rest)| (name, rest.split(|c: char| !c.is_ascii_digit()).next().unwrap().parse().unwrap())).collect()
+}
+
+/// The texts of the header's `quelbrift_text`, by name.
+fn texts() -> HashMap<&'static str, &'static str> {
+    let pairs = HEADER.lines().filter_map(|line| line.trim().strip_prefix("case QUELBRIFT_")?.split_once(": return \""));
+    pairs.map(|(name, rest)| (name, rest.trim_end_matches("\";"))).collect()
+}
+
+/// The number of a `#define`.
+fn limit(name: &str) -> u64 {
+    let line = HEADER.lines().find_map(|line| line.strip_prefix(&format!("#define QUELBRIFT_{name} "))).expect(name);
+    line.split_whitespace().next().unwrap().parse().expect(name)
+}
+
+#[test]
+fn texts_are_those_of_the_header() {
+    let (numbers, texts) = (numbers(), texts());
+    assert_eq!(numbers.len(), 20);
+    assert_eq!(texts.len(), numbers.len());
+    for (name, number) in numbers {
+        if number != 0 {
+            assert_eq!(Refusal { number, place: 0 }.text(), texts[name], "{name}");
+        }
+    }
+}
+
+#[test]
+fn limits_are_those_of_the_header() {
+    assert_eq!(u64::from(quelbrift::MAX_VARIABLES), limit("MAX_VARIABLES"));
+    assert_eq!(u64::from(quelbrift::MAX_NODES), limit("MAX_NODES"));
+    assert_eq!(quelbrift::NODE_WORDS as u64, limit("NODE_WORDS"));
+    assert_eq!(u64::from(quelbrift::MAX_CAPACITY), limit("MAX_CAPACITY"));
+    assert_eq!(quelbrift::MAX_TEXT as u64, limit("MAX_TEXT"));
+    assert_eq!(u64::from(quelbrift::MAX_DEPTH), limit("MAX_DEPTH"));
+    assert_eq!(quelbrift::MAX_LINE as u64, limit("MAX_LINE"));
+}
+
+#[test]
+fn versions_agree() {
+    assert_eq!(u64::from(quelbrift::VERSION), limit("VERSION"));
+    assert_eq!(quelbrift::version(), quelbrift::VERSION);
+}
+
+#[test]
+fn a_refusal_is_shown_with_its_place() {
+    let shown = |number, place| Refusal { number, place }.to_string();
+    assert_eq!(shown(11, 7), "refused 11 at byte 7: the circuit text has the wrong shape");
+    assert_eq!(shown(16, 300), "refused 16, 300 bytes needed: the text does not fit the sink");
+    assert_eq!(shown(22, 3), "refused 22 at node 3: a node is malformed");
+    assert_eq!(shown(42, 0), "refused 42: more clearances than the room");
+}
+
+/// A refusal is an error like any other.
+fn longest_line() -> Result<u64, Box<dyn std::error::Error>> {
+    let line = (0..quelbrift::MAX_VARIABLES).fold("(stow".to_string(), |line, fact| format!("{line} {fact}")) + ")\n";
+    assert_eq!(line.len(), quelbrift::MAX_LINE);
+    Ok(quelbrift::read_assignment(line.as_bytes(), quelbrift::MAX_VARIABLES)?)
+}
+
+#[test]
+fn the_longest_line_is_read() {
+    assert_eq!(longest_line().unwrap(), (1 << quelbrift::MAX_VARIABLES) - 1);
+    assert!(quelbrift::read_assignment(b"(stow", 1).is_err());
+}

@@ -21,7 +21,7 @@ int main(int count, char **arguments)
     FILE *file = count == 2 ? fopen(arguments[1], "rb") : NULL;
     size_t length = file ? fread(text, 1, sizeof text, file) : 0;
     if (file == NULL || ferror(file)) {
-        fprintf(stderr, "list FILE: the file can not be read\n");
+        fprintf(stderr, "list FILE: the file cannot be read\n");
         return 2;
     }
     quelbrift_answer read = quelbrift_read(text, length, words, NODES * QUELBRIFT_NODE_WORDS);

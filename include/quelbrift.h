@@ -1,27 +1,30 @@
 /*
- * Quelbrift: rule circuits of feeder container ships. Link libquelbrift.a (x86-64; README.md builds it):
+ * Quelbrift: rule circuits of feeder container ships. Link libquelbrift.a (x86-64; README.md says how to build it):
  *     cc -std=c11 -Iinclude program.c target/staticlib/libquelbrift.a -o program
  * examples/list.c is a whole program.
  *
  * Calls. Every function takes any numbers and any contents of the buffers. It ends, and does its work or refuses by a number. A
- * buffer is a pointer and then its length in elements. The caller answers for what C asks of every array: the pointer is not NULL,
- * not even where the length is 0; it has that many elements; a buffer that is written overlaps no other. No function keeps a
- * pointer or state, and calls from several threads at once do not disturb one another. A call needs at most 256 KiB of stack.
+ * buffer is a pointer and then its length in elements; it may always be longer than needed. The caller must see to three things. No
+ * pointer is NULL, not even where the length is 0. It points to at least that many elements. A buffer that is written overlaps no
+ * other. No function keeps a pointer or state, and calls from several threads at once do not disturb one another. A call needs at
+ * most 256 KiB of stack. Bytes and nodes are counted from 0.
  *
- * Words. A fact of the trade is a variable here, a stow an assignment, a row a term, a clearance a prime implicant. An assignment
- * is a mask: bit i is set where variable i is true (the fact is yes). A term is two masks: positive (marked yes) and negative
- * (marked no).
+ * Vocabulary. A fact of the trade is a variable here, a stow an assignment, a row a term, a clearance a prime implicant, the room a
+ * capacity. An assignment is a mask: bit i is set where variable i is true (the fact is yes). A term is two masks: positive (marked
+ * yes) and negative (marked no).
  *
- * Tables. A circuit is a table of uint32_t words, four a node: kind, variable, a, b. Node i stands at word 4 * i; the last node is
- * the whole circuit. Kinds: 0 false, 1 true, 2 yes, 3 no, 4 pick (a where the variable is false, b where it is true), 5 both. An
- * unused word is 0, and children stand below their parent.
+ * Tables. A circuit is a table of uint32_t words, four a node: kind, variable, a, b. Node i is the four words from 4 * i on; the
+ * last node is the whole circuit. Kinds: 0 false, 1 true, 2 yes, 3 no, 4 pick (a where the variable is false, b where it is true), 5
+ * both. a and b are the numbers of the children of a pick or a both, lower than the node's own. Unused, and so 0: variable, a and b
+ * of false and true; a and b of yes and no; variable of both.
  *
- * Texts. A circuit text is made of lines, each ended by byte 10: first (circuit N), N the number of variables, then one or more
- * forms:
+ * Texts. A circuit text is made of lines, each ended by byte 10 (newline), the last one too. The first is (circuit N), N the number
+ * of variables, 1 to 40. One or more lines follow, each a form:
  *     (true)  (false)  (yes V)  (no V)  (pick V F F)  (both F F)  (line K)
- * V is a variable, below N. F is a form. K is the number of an earlier line, the first after the header being 0. A line's own form
- * is not line. One space stands between parts, none elsewhere. A number has one to four digits and no leading zero. Each closing
- * bracket makes a node: children first, the left before the right. Only (line K) makes none: it means the node of line K's form.
+ * V is a variable, below N. F is a form. K is the number of an earlier line, the first after the header being 0. A whole line is
+ * never (line K). One space stands between parts, none elsewhere. A number has one to four digits and no leading zero. Each form
+ * makes one node, at its closing bracket: children first, the left before the right. Only (line K) makes none: it means the node of
+ * line K's form. The last line is the circuit, and every other line is used by a later one.
  */
 #ifndef QUELBRIFT_H
 #define QUELBRIFT_H
@@ -33,7 +36,7 @@
 extern "C" {
 #endif
 
-/* The version of this header: raised whenever it, or an answer, changes. quelbrift_version() gives the archive's. */
+/* The version. It is raised whenever this header or an answer of the archive changes. quelbrift_version() gives the archive's. */
 #define QUELBRIFT_VERSION 1
 
 /* The limits. */
@@ -41,8 +44,8 @@ extern "C" {
 #define QUELBRIFT_MAX_NODES 1024     /* its nodes: 1 to 1,024 */
 #define QUELBRIFT_NODE_WORDS 4       /* the words of a node */
 #define QUELBRIFT_MAX_CAPACITY 4096  /* the capacity (room) of a listing: 0 to 4,096 */
-#define QUELBRIFT_MAX_TEXT 40000     /* the bytes of a circuit text */
-#define QUELBRIFT_MAX_DEPTH 16       /* how deep its brackets go */
+#define QUELBRIFT_MAX_TEXT 40000     /* at most so many bytes in a circuit text */
+#define QUELBRIFT_MAX_DEPTH 16       /* and brackets at most so deep */
 #define QUELBRIFT_MAX_LINE 117       /* the bytes of the longest stow line that is accepted */
 
 /*
@@ -72,19 +75,19 @@ enum {
     QUELBRIFT_DONE = 0,
     /* of a circuit text, with the byte */
     QUELBRIFT_LENGTH = 10,    /* over 40,000 bytes; the place is 40,000 */
-    QUELBRIFT_SHAPE = 11,     /* wrong shape: no circuit text goes on with this byte; or the end, where more is needed */
-    QUELBRIFT_RANGE = 12,     /* a number of variables or a variable out of range; the byte after it */
-    QUELBRIFT_REFERENCE = 13, /* not the number of an earlier line; the byte after it */
+    QUELBRIFT_SHAPE = 11,     /* wrong shape, at this byte, or at the end where more is needed; whatever the numbers and the depth are */
+    QUELBRIFT_RANGE = 12,     /* a number of variables or a variable out of range; the byte after the number */
+    QUELBRIFT_REFERENCE = 13, /* not the number of an earlier line; the byte after the number */
     QUELBRIFT_DEPTH = 14,     /* a bracket seventeen deep */
     QUELBRIFT_NODES = 15,     /* no room for the node, at its closing bracket */
     /* of a sink, with the needed length */
     QUELBRIFT_SINK = 16,
     /* of a table, with the lowest node */
-    QUELBRIFT_SIZES = 21,          /* variables, nodes or words out of range; node 0 */
-    QUELBRIFT_MALFORMED = 22,      /* a kind above 5, a variable or child out of range, an unused word that is not 0 */
+    QUELBRIFT_SIZES = 21,          /* variables not 1 to 40, nodes not 1 to 1,024, or fewer than 4 * nodes words; node 0 */
+    QUELBRIFT_MALFORMED = 22,      /* a kind above 5, a variable out of range, a child not below its parent, an unused word not 0 */
     QUELBRIFT_PARENTLESS = 23,     /* a node, not the last, that is nobody's child */
-    QUELBRIFT_UNDECOMPOSABLE = 24, /* a both with a variable under both children, or a pick with its own under a child */
-    QUELBRIFT_UNREDUCED = 25,      /* a both with a false child, or a pick with two */
+    QUELBRIFT_UNDECOMPOSABLE = 24, /* a both with a variable under both children, or a pick with its own variable under a child */
+    QUELBRIFT_UNREDUCED = 25,      /* a both with a false child, or a pick with two false children */
     /* of the question; the place is 0 */
     QUELBRIFT_ASSIGNMENT = 31,  /* a bit at the number of variables or above */
     QUELBRIFT_NOT_TERM = 32,    /* such a bit, or one in both masks */
@@ -93,7 +96,7 @@ enum {
     QUELBRIFT_CAPACITY = 42,    /* more prime implicants than the capacity */
     /* of an assignment line, with the byte */
     QUELBRIFT_LINE_SHAPE = 51, /* wrong shape, placed as 11 */
-    QUELBRIFT_LINE_ORDER = 52  /* a variable out of range, or not above the one before; the byte after it */
+    QUELBRIFT_LINE_ORDER = 52  /* a variable out of range, or not above the one before; the byte after the number */
 };
 
 /* A text for each number, for messages. */
@@ -128,9 +131,12 @@ static inline const char *quelbrift_text(uint32_t number)
 uint32_t quelbrift_version(void);
 
 /*
- * Reads a circuit text into words, at most 1,024 nodes or a quarter of the words.
+ * Reads a circuit text into words: at most 1,024 nodes, and at most words_length / 4, rounded down. Reading does not check the table:
+ * what is read can still be refused by 23, 24 or 25 (quelbrift_check). Read up to QUELBRIFT_MAX_TEXT + 1 bytes from a file, so that a
+ * longer text is refused by 10.
  * Done: first is the number of variables, second the number of nodes; the words past the nodes are 0.
- * Refuses: 10, else 11 to 15 at the lowest byte; of those at one byte 11 comes first and 15 last. Every word is 0 then.
+ * Refuses: 10, else 11 to 15 at the lowest byte; of those at the same byte 11 comes first and 15 last. All
+ * words_length words are 0 then.
  */
 quelbrift_answer quelbrift_read(const uint8_t *text, size_t text_length, uint32_t *words, size_t words_length);
 
@@ -143,8 +149,8 @@ quelbrift_answer quelbrift_write(const uint32_t *words, size_t words_length, uin
                                  uint8_t *sink, size_t sink_length);
 
 /*
- * Checks a table: 21 to 25 in that order, each with its lowest node. Every other operation on a table, but the writing, makes this
- * check first and gives its refusals.
+ * Checks a table: 21 to 25 in that order, each with its lowest node. Every other function that takes a table makes this check first.
+ * Only quelbrift_write does not: it checks 21 and 22.
  * Done: the table is accepted; no value. Refuses: 21, 22, 23, 24, 25.
  */
 quelbrift_answer quelbrift_check(const uint32_t *words, size_t words_length, uint32_t variables, uint32_t nodes);
@@ -177,40 +183,42 @@ quelbrift_answer quelbrift_is_prime(const uint32_t *words, size_t words_length, 
                                     uint64_t positive, uint64_t negative);
 
 /*
- * Strikes an allowed assignment down to a clearance: of all its marks, those of variable 0, 1, ... in turn, each if the rest still
- * implies.
+ * Strikes an allowed assignment down to a clearance. It starts with a mark for every variable, goes through variables 0, 1, ... in
+ * turn, and drops the mark if the rest still implies.
  * Done: first is the positive mask, second the negative mask of the term left. Refuses: 21 to 25, then 31, then 33.
  */
 quelbrift_answer quelbrift_reduce(const uint32_t *words, size_t words_length, uint32_t variables, uint32_t nodes,
                                   uint64_t assignment);
 
 /*
- * Lists the clearances of every node, at most capacity of each. Node i's count goes to counts[i], its positive and negative masks to
- * positives[i * capacity] and negatives[i * capacity] on, in order: fewer marks first, then the smaller mask of all marked
- * variables, then the smaller positive mask. The other entries of the first nodes * capacity are 0, later entries are unchanged.
+ * Lists all clearances of every node. Node i's count goes to counts[i], its positive and negative masks to positives[i * capacity] and
+ * negatives[i * capacity] on. The circuit's own clearances are those of the last node: counts[nodes - 1] of them, from index
+ * (nodes - 1) * capacity on. The order: fewer marks first; then the smaller mask of all marked variables, as a number; then the smaller
+ * positive mask. The other entries of the first nodes * capacity are 0, later entries are unchanged.
  * Done: no value. No count is above the last node's.
  * Refuses: 21 to 25, then 41; all buffers are unchanged then. Then 42, exactly where the circuit has more clearances than the
- * capacity; the first nodes * capacity entries of both row buffers and the first nodes counts are 0 then, later ones unchanged.
- * Time: the families measured take milliseconds, but it grows with up to the third power of the capacity at each pick. A table made to
- * be slow took 342 s; the bound at capacity 4,096 is some 40 s a pick, so hours a table (docs/PERFORMANCE.md). A call can not be
- * interrupted; a smaller capacity bounds it.
+ * capacity; the first nodes * capacity entries of both row buffers and the first `nodes` counts are 0 then, later ones unchanged. Start
+ * with a small capacity, and after 42 try a larger one, up to 4,096.
+ * Time: the circuits measured (docs/PERFORMANCE.md) take milliseconds. The worst time grows with the third power of the capacity at each
+ * pick: at capacity 4,096 some 40 s a pick, so hours a table. A table made to be slow took 342 s. A call cannot be interrupted; a
+ * smaller capacity bounds it.
  */
 quelbrift_answer quelbrift_list(const uint32_t *words, size_t words_length, uint32_t variables, uint32_t nodes, uint32_t capacity,
                                 uint64_t *positives, size_t positives_length, uint64_t *negatives, size_t negatives_length,
                                 uint32_t *counts, size_t counts_length);
 
 /*
- * The part of a row buffer that holds the first count entries of a node, by its offset; the buffer is not read.
- * Done, always: first is the part's offset in the buffer, second its length, which is count; both are 0 for the empty part, which
- * is the answer too where the node is above 1,023, the capacity above 4,096, the count above the capacity, or the part would end
- * past the buffer.
+ * Finds a node's rows in a row buffer, by offset and length; the buffer is not read. It never refuses.
+ * Done: first is the offset node * capacity, second the length count. Both are 0 where count is 0, the node above 1,023, the capacity
+ * above 4,096, the count above the capacity, or the part would end past the buffer.
  */
 quelbrift_answer quelbrift_view(const uint64_t *buffer, size_t buffer_length, uint32_t capacity, uint32_t node, uint32_t count);
 
 /*
- * Reads a stow line, (stow V V ...) and byte 10: the variables that are true, rising; every other one is false.
+ * Reads a stow line, (stow V V ...) and byte 10: the variables that are true, rising; every other one is false. (stow) alone is a line.
+ * Spaces and numbers are as in a circuit text; nothing follows byte 10.
  * Done: first is the assignment. Refuses: 21 (place 0) where the number of variables is out of range; else 51 or 52 at the lowest
- * byte, at one byte 51.
+ * byte, 51 if both are at the same one.
  */
 quelbrift_answer quelbrift_read_assignment(const uint8_t *line, size_t line_length, uint32_t variables);
 

@@ -16,6 +16,7 @@ use Rattle.terms.proofs.Sorted.{insert-rising}
 use Rattle.insertion.specs.Filled.{held, masksOf, keptOf, Filled}
 use Rattle.insertion.specs.declared.Kept.{Kept}
 use Rattle.insertion.specs.declared.Kept.the-variants.{Count, Full}
+use Rattle.insertion.proofs.Again.{filled-held, filled-then}
 use Rattle.insertion.proofs.Inserted.{length-insert}
 use Rattle.insertion.proofs.Parts.{terms-masks, length-masks, Even, kept-count, kept-full, filled-full}
 use Rattle.builder.specs.Made.{insertAll, Added}
@@ -33,66 +34,14 @@ pub rises : (l acc : List Term) → Rising before acc → Rising before (insertA
 rises [] acc r = r
 rises (t ∷ l) acc r = rises l (insert before t acc) (insert-rising before before-irrefl before-trans t acc r)
 
-drop-more : (a b : ℕ) (x y : List ℕ) → a ≤ b → drop a x ≡ drop a y → drop b x ≡ drop b y
-drop-more a b x y h e =
-    let n : b ≡ a + (b - a) = omega arith in
-    ap (λ (k : ℕ). drop k x) n ∙ sym (drop-drop (b - a) a x) ∙ ap (drop (b - a)) e ∙ drop-drop (b - a) a y
-    ∙ ap (λ (k : ℕ). drop k y) (sym n)
-
 -- ---- the list m was made in the front of s₀, which is s then
 module _ (m : List Term) (s₀ s : Bool → List ℕ) (ev : Even s₀) (c : ℕ) (f : Filled m s₀ s (Count c)) where
-  told : (length m ≤ length (s₀ true)) × (c ≡ length m)
-  told = kept-count (length (s₀ true)) m c (f .answer)
-
-  is-laid : (b : Bool) → s b ≡ masksOf b m ++ drop c (s₀ b)
-  is-laid b = f .masks (told .0) b ∙ ap (λ (k : ℕ). masksOf b m ++ drop k (s₀ b)) (length-masks b m ∙ sym (told .1))
-
-  size : (b : Bool) → length (masksOf b m) ≡ c
-  size b = length-masks b m ∙ sym (told .1)
-
-  pub filled-length : (b : Bool) → length (s b) ≡ length (s₀ b)
-  filled-length b =
-      let h : c ≤ length (s₀ b) = omega (arith, told, ev b) in
-      ap length (is-laid b) ∙ length-append (masksOf b m) (drop c (s₀ b))
-      ∙ ap₂ _+_ (size b) (length-drop c (s₀ b)) ∙ omega arith
-
-  pub filled-even : Even s
-  filled-even b = filled-length b ∙ ev b ∙ sym (filled-length true)
-
-  pub filled-fits : c ≤ length (s true)
-  filled-fits = omega (arith, told, filled-length true)
-
-  -- the first entries hold it
-  pub filled-held : held s c ≡ m
-  filled-held =
-      ap₂ termsOf (front true) (front false) ∙ terms-masks m
-    where
-      front : (b : Bool) → take c (s b) ≡ masksOf b m
-      front b = ap (take c) (is-laid b) ∙ take-at (masksOf b m) (drop c (s₀ b)) c (size b)
-
-  -- in order, where it is
-  pub filled-rising : Rising before m → Rising before (held s c)
-  filled-rising r = subst (Rising before) (sym filled-held) r
-
-  -- a longer list made after it is made in s₀
-  pub filled-then : (l : List Term) (s′ : Bool → List ℕ) (k : Kept) → length m ≤ length l → Filled l s s′ k → Filled l s₀ s′ k
-  filled-then l s′ k more g =
-      record {
-        answer = g .answer ∙ ap (λ (n : ℕ). keptOf n l) (filled-length true);
-        masks = λ h b. g .masks (rw (filled-length true) h) b ∙ ap (λ (z : List ℕ). masksOf b l ++ z) (past b);
-      }
-    where
-      past : (b : Bool) → drop (length (masksOf b l)) (s b) ≡ drop (length (masksOf b l)) (s₀ b)
-      past b =
-          drop-more c (length (masksOf b l)) (s b) (s₀ b) (omega (arith, told, length-masks b l))
-          (ap (drop c) (is-laid b) ∙ drop-at (masksOf b m) (drop c (s₀ b)) c (size b))
-
   -- the terms of l inserted into it
   module _ (l : List Term) (s′ : Bool → List ℕ) where
     pub added-then : (k : Kept) → Added l s c s′ k → Filled (insertAll l m) s₀ s′ k
     added-then k g =
-        filled-then (insertAll l m) s′ k (length-insertAll l m)
-        (subst (λ (z : List Term). Filled (insertAll l z) s s′ k) filled-held g)
+        filled-then m s₀ s ev c f (insertAll l m) s′ k (length-insertAll l m)
+        (subst (λ (z : List Term). Filled (insertAll l z) s s′ k) (filled-held m s₀ s ev c f) g)
 
     -- where they do not fit, what is to be inserted after them does not fit either
     pub added-full : (rest : List Term) (s″ : Bool → List ℕ) → Added l s c s′ Full → Filled (insertAll rest (insertAll l m)) s₀ s″ Full

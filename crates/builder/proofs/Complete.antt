@@ -8,16 +8,16 @@ use mathlib.Core.List.{List·Memᴰ·append-cases, Memᴰ·append-left, Memᴰ·
 use lib.Dec.{T}
 use Rattle.masks.specs.Mask.{width}
 use Rattle.masks.proofs.Tests.{along}
-use Rattle.terms.specs.Joins.{joinsWith, holdsOne}
+use Rattle.terms.specs.Joins.{joinsWith, holdsOne, joins, holdsShorter, leastOf}
 use Rattle.terms.specs.Lists.{keep, insert}
 use Rattle.terms.specs.Order.{before}
-use Rattle.terms.specs.Prime.{primes, Implicant, Prime}
+use Rattle.terms.specs.Prime.{primes, Implicant, Prime, Lists}
 use Rattle.terms.specs.Term.{without, join, conflict, IsTerm}
 use Rattle.terms.specs.declared.Term.{Term}
-use Rattle.terms.proofs.Built.{joins, holdsShorter, leastOf, joins-in, joins-out, conflict-free, implicant-listed, least-lists, JoinOf}
+use Rattle.terms.proofs.Built.{joins-in, joins-out, conflict-free, implicant-listed, least-lists, JoinOf}
 use Rattle.terms.proofs.Conjunctions.{conj, conj-i, conj-l}
 use Rattle.terms.proofs.Implicants.{least-same}
-use Rattle.terms.proofs.Listed.{before-irrefl, before-trans, before-total, primes-unique, Lists}
+use Rattle.terms.proofs.Listed.{before-irrefl, before-trans, before-total, primes-unique}
 use Rattle.terms.proofs.Sorted.{insert-out, insert-in, keep-out, keep-in, map-in}
 use Rattle.terms.proofs.Terms.{Inside, join-l, join-isTerm}
 use Rattle.lists.proofs.Least.{Terms, shorter-joins}

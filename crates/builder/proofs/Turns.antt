@@ -14,9 +14,10 @@ use Rattle.lists.specs.Scans.{termAt}
 use Rattle.lists.proofs.Parts.{drop-terms, drop-end}
 use Rattle.insertion.specs.Filled.{held, Filled}
 use Rattle.insertion.specs.declared.Kept.the-variants.{Count, Full}
+use Rattle.insertion.proofs.Again.{filled-length, filled-fits, filled-held}
 use Rattle.insertion.proofs.Parts.{Even, filled-none}
 use Rattle.builder.specs.Made.{insertAll, madeWith, madeEach, Added}
-use Rattle.builder.proofs.Adding.{insertAll-append, rises, filled-length, filled-fits, filled-held, added-then, added-full}
+use Rattle.builder.proofs.Adding.{insertAll-append, rises, added-then, added-full}
 
 -- a list that is made of another one term by term: for each term t the terms `one t`
 pub record Steps : Type 0 where

@@ -9,15 +9,16 @@ use Rattle.masks.specs.Mask.{width, bit, put}
 use Rattle.masks.proofs.Masks.{put-same, put-lt}
 use Rattle.masks.proofs.Tests.{decide, along}
 use Rattle.table.specs.Node.{nodeAt, Node, constant, literal, decision, conjunction, unknown}
+use Rattle.terms.specs.Joins.{joins, decisionTerms}
 use Rattle.terms.specs.Lists.{sort}
 use Rattle.terms.specs.Order.{before}
-use Rattle.terms.specs.Prime.{primes, Implicant, Prime}
+use Rattle.terms.specs.Prime.{primes, Implicant, Prime, Lists}
 use Rattle.terms.specs.Term.{empty, has, without, extend, IsTerm}
 use Rattle.terms.specs.declared.Term.{Term}
-use Rattle.terms.proofs.Built.{joins, decisionTerms, joins-lists, decision-lists}
+use Rattle.terms.proofs.Built.{joins-lists, decision-lists}
 use Rattle.terms.proofs.Decisions.{choice}
 use Rattle.terms.proofs.Implicants.{least-same}
-use Rattle.terms.proofs.Listed.{primes-lists, sort-primes, Lists}
+use Rattle.terms.proofs.Listed.{primes-lists, sort-primes}
 use Rattle.terms.proofs.Terms.{Inside, extend-there, extend-only, empty-has, by-variable, without-inside, agrees-inside, put-agrees}
 use Rattle.terms.proofs.Terms.{own-agrees}
 use Rattle.circuits.specs.Check.{allDisjoint}

@@ -1,3 +1,4 @@
 pub mod Inserted
 pub mod Carried
 pub mod Parts
+pub mod Again

@@ -16,7 +16,7 @@ use Rattle.terms.specs.declared.Term.{Term}
 use Rattle.lists.proofs.Parts.{length-terms}
 use Rattle.insertion.specs.Filled.{insertAt, Placed, bySign, held, masksOf, keptOf, Filled}
 use Rattle.insertion.specs.declared.Kept.the-variants.{Count, Full}
-use Rattle.insertion.specs.declared.Place.the-variants.{Present, At}
+use Rattle.insertion.specs.declared.Place.the-variants.{At}
 use Rattle.insertion.proofs.Inserted.{length-insertAt, map-insertAt}
 
 masks-terms : (b : Bool) (ps ns : List ℕ) → length ns ≡ length ps → masksOf b (termsOf ps ns) ≡ bySign ps ns b
@@ -96,7 +96,7 @@ module _ (s : Bool → List ℕ) (ev : Even s) (count : ℕ) (h : count ≤ leng
 
   -- ---- what an insertion leaves
   module _ (t : Term) where
-    pub filled-present : Placed t (held s count) Present → Filled (insert before t (held s count)) s s (Count count)
+    pub filled-present : insert before t (held s count) ≡ held s count → Filled (insert before t (held s count)) s s (Count count)
     filled-present e = subst (λ (l : List Term). Filled l s s (Count count)) (sym e) filled-none
 
     module _ (k : ℕ) (p : Placed t (held s count) (At k)) where

@@ -1,13 +1,13 @@
 -- Lists of terms in the front of two slices, and what is left there when a list was made. No public contract rests on these.
-use Prim.Native.Nat.{ℕ, _≤_}
+use Prim.Native.Nat.{ℕ, _<_, _≤_}
 use mathlib.Core.Path.{_≡_}
 use mathlib.Core.Bool.{Bool, true, false, cond}
 use mathlib.Core.List.{List, _∷_, _++_, map}
 use lib.Dec.{leb}
-use lib.ListN.{length, take, drop}
+use lib.ListN.{length, getD, take, drop}
 use Rattle.terms.specs.Lists.{insert}
 use Rattle.terms.specs.Order.{before}
-use Rattle.terms.specs.Term.{mask, termsOf}
+use Rattle.terms.specs.Term.{empty, mask, termsOf}
 use Rattle.terms.specs.declared.Term.{Term}
 use Rattle.insertion.specs.declared.Kept.{Kept}
 use Rattle.insertion.specs.declared.Kept.the-variants.{Count, Full}
@@ -18,9 +18,13 @@ use Rattle.insertion.specs.declared.Place.the-variants.{Present, At}
 abbrev pub insertAt : {A : Type 0} → ℕ → A → List A → List A
 insertAt k v l = take k l ++ v ∷ drop k l
 
+-- neither comes before the other: terms over some variables are then the same
+abbrev pub Level : Term → Term → Type 0
+Level t u = (before t u ≡ false) × (before u t ≡ false)
+
 -- what a search for the place of t finds
 abbrev pub Placed : Term → List Term → Place → Type 0
-Placed t l Present = insert before t l ≡ l
+Placed t l (Present k) = (k < length l) × Level t (getD l k empty) × (insert before t l ≡ l)
 Placed t l (At k) = (k ≤ length l) × (insert before t l ≡ insertAt k t l)
 
 -- the two slices by sign: the positive masks for true

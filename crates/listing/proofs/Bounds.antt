@@ -3,7 +3,6 @@ use Prim.Native.Nat.{ℕ, _*_, _≤_}
 use mathlib.Core.Path.{_≡_, ap}
 use mathlib.Core.Bool.{Bool, true, false, not}
 use mathlib.Core.List.{List}
-use native.Mathlib.Nat.{le-trans, mul-le-mul-left, mul-le-mul-right}
 use lib.Dec.{T, leb→le}
 use lib.ListN.{length}
 use Rattle.masks.proofs.Tests.{and-l, and-r}
@@ -21,9 +20,6 @@ module _ {N n : ℕ} {w : List ℕ} (acc : Accepted N n w) where
 
   pub words-enough : nodeWords * n ≤ length w
   words-enough = leb→le (nodeWords * n) (length w) (let r = acc .range in search (and-l, and-r))
-
-pub product-le : (a b m n : ℕ) → a ≤ m → b ≤ n → a * b ≤ m * n
-product-le a b m n ha hb = le-trans (mul-le-mul-left a hb) (mul-le-mul-right n ha)
 
 -- buffers that are large enough
 pub record Enough (n R : ℕ) (b : Lent) : Type 0 where

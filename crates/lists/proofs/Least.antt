@@ -9,10 +9,11 @@ use lib.Dec.{T, T-not, not-T, ltb, ltb→lt, nltb→le}
 use lib.ListN.{length}
 use Rattle.masks.specs.Mask.{width}
 use Rattle.masks.proofs.Tests.{and-i, and-l, and-r, decide, is-true, along, same-test}
+use Rattle.terms.specs.Joins.{joins, holdsShorter}
 use Rattle.terms.specs.Lists.{any}
 use Rattle.terms.specs.Term.{literals, join, inside, IsTerm, termsOf}
 use Rattle.terms.specs.declared.Term.{Term}
-use Rattle.terms.proofs.Built.{joins, holdsShorter, joins-in, joins-out, conflict-free, joined-free, as-long, JoinOf}
+use Rattle.terms.proofs.Built.{joins-in, joins-out, conflict-free, joined-free, as-long, JoinOf}
 use Rattle.terms.proofs.Sorted.{any-i, any-e}
 use Rattle.terms.proofs.Terms.{Inside, inside-trans, join-l, join-r, join-least, term-ext, join-isTerm, join-within, inside-e, inside-i}
 use Rattle.lists.specs.Scans.{termAt, short, shorter, shorterJoin, shorterAt}
@@ -57,19 +58,27 @@ module _ (N : ℕ) (wide : N ≤ width) where
     abbrev test : Term → Bool
     test u = inside u t && ltb (literals u) (literals t)
 
-    found : T (shorterJoin l k t) → T (holdsShorter (joins l k) t)
+    -- the join of such a pair is one of the joins, is inside t and has fewer literals
+    pub shorter-down : (a b : Term) → List·Memᴰ a l → List·Memᴰ b k → T (shorter t a b)
+        → List·Memᴰ (join a b) (joins l k) × T (inside (join a b) t) × T (ltb (literals (join a b)) (literals t))
     unfolding shorter short
+    shorter-down a b ma mb p =
+        let ia : Inside a t = inside-e N wide a t (hl a ma) (and-l (inside a t) (short t a b) p) in
+        let rest : T (short t a b) = and-r (inside a t) (short t a b) p in
+        let ib : Inside b t = inside-e N wide b t (hk b mb) (and-l (inside b t) (not (inside t (join a b))) rest) in
+        let j : IsTerm N (join a b) = join-within N a b t (hl a ma) (hk b mb) w ia ib in
+        let i : Inside (join a b) t = join-least a b t ia ib in (
+          joins-in k l a b (join a b) ma mb (joined-free N wide a b j) refl,
+          inside-i N (join a b) t i,
+          fewer (join a b) t w i (and-r (inside b t) (not (inside t (join a b))) rest),
+        )
+
+    found : T (shorterJoin l k t) → T (holdsShorter (joins l k) t)
     found s =
         let (a, ma, pa) = any-e (λ a. any (shorter t a) k) l s in
         let (b, mb, pb) = any-e (shorter t a) k pa in
-        let ia : Inside a t = inside-e N wide a t (hl a ma) (and-l (inside a t) (short t a b) pb) in
-        let rest : T (short t a b) = and-r (inside a t) (short t a b) pb in
-        let ib : Inside b t = inside-e N wide b t (hk b mb) (and-l (inside b t) (not (inside t (join a b))) rest) in
-        let j : IsTerm N (join a b) = join-within N a b t (hl a ma) (hk b mb) w ia ib in
-        let i : Inside (join a b) t = join-least a b t ia ib in
-        any-i test (joins l k) (join a b) (joins-in k l a b (join a b) ma mb (joined-free N wide a b j) refl)
-        (and-i (inside (join a b) t) (ltb (literals (join a b)) (literals t)) (inside-i N (join a b) t i)
-        (fewer (join a b) t w i (and-r (inside b t) (not (inside t (join a b))) rest)))
+        let (m, i, less) = shorter-down a b ma mb pb in
+        any-i test (joins l k) (join a b) m (and-i (inside (join a b) t) (ltb (literals (join a b)) (literals t)) i less)
 
     finds : T (holdsShorter (joins l k) t) → T (shorterJoin l k t)
     unfolding shorter short

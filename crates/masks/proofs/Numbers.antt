@@ -1,11 +1,11 @@
 -- Laws of the tests of the numbers below a bound.
-use Prim.Native.Nat.{ℕ, zero, suc, _+_, _<_, _≤_}
+use Prim.Native.Nat.{ℕ, zero, suc, _+_, _*_, _<_, _≤_}
 use mathlib.Core.Path.{_≡_, refl, sym, ap, ap₂, subst, _∙_}
 use mathlib.Core.Bool.{Bool, true, false, _&&_, _||_, not, cond, and-assoc, and-comm}
 use mathlib.Core.Logic.{⊎-elim}
 use mathlib.Core.List.{[], _∷_, List·Memᴰ, List·Memᴰ·head, List·Memᴰ·not-nil, List·Memᴰ·eq-of-singleton}
 use mathlib.Core.List.{List·Memᴰ·append-cases, Memᴰ·append-left, Memᴰ·append-right}
-use native.Mathlib.Nat.{not-suc-le-zero, le-refl, add-zero, zero-add}
+use native.Mathlib.Nat.{not-suc-le-zero, le-refl, add-zero, zero-add, le-trans, mul-le-mul-left, mul-le-mul-right}
 use native.Mathlib.Omega.{arith}
 use lib.Dec.{T, ltb, ltb→lt, nltb→le}
 use Rattle.masks.specs.Numbers.{digit, every, some, count, least, below}
@@ -154,3 +154,7 @@ below-out (suc n) i m =
     ⊎-elim (λ (k : List·Memᴰ i (below n)). let l : i < n = below-out n i k in omega arith)
     (λ (k : List·Memᴰ i (n ∷ [])). let e : i ≡ n = List·Memᴰ·eq-of-singleton k in omega arith)
     (List·Memᴰ·append-cases (below n) m)
+
+-- a product of smaller numbers
+pub product-le : (a b m n : ℕ) → a ≤ m → b ≤ n → a * b ≤ m * n
+product-le a b m n ha hb = le-trans (mul-le-mul-left a hb) (mul-le-mul-right n ha)

@@ -9,13 +9,14 @@ use Rattle.masks.specs.Mask.{width}
 use Rattle.table.specs.Gate.{childAt}
 use Rattle.table.specs.Node.{kind, node, word, nodeAt, Kind, constantKind, literalKind, decisionKind, conjunctionKind, unknownKind}
 use Rattle.table.specs.Node.{Node, constant, literal, decision, conjunction, unknown}
-use Rattle.terms.specs.Prime.{primes}
+use Rattle.terms.specs.Joins.{joins}
+use Rattle.terms.specs.Prime.{primes, Lists}
 use Rattle.terms.specs.declared.Term.{Term}
-use Rattle.terms.proofs.Built.{joins, joins-lists, decision-with}
+use Rattle.terms.proofs.Built.{joins-lists, decision-with}
 use Rattle.terms.proofs.Conjunctions.{conj}
 use Rattle.terms.proofs.Decisions.{choice}
 use Rattle.terms.proofs.Implicants.{Free}
-use Rattle.terms.proofs.Listed.{primes-lists, Lists}
+use Rattle.terms.proofs.Listed.{primes-lists}
 use Rattle.circuits.specs.Function.{function}
 use Rattle.circuits.proofs.Accepted.{variables-le, variables-wide, Accepted}
 use Rattle.circuits.proofs.BottomUp.{from-children}

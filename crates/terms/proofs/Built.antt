@@ -1,4 +1,4 @@
--- What Propositions 3 and 5 build from lists of terms, and that it is the prime implicants. No contract rests on these.
+-- What Propositions 3 and 5 build from lists of terms is the prime implicants.
 use Prim.Native.Nat.{ℕ, _<_, _≤_}
 use mathlib.Core.Path.{_≡_, refl, sym, ap, subst, _∙_}
 use mathlib.Core.Bool.{Bool, true, false, _&&_, not, true≢false}
@@ -14,36 +14,17 @@ use Rattle.masks.specs.Numbers.{count}
 use Rattle.masks.proofs.Numbers.{count-ext, count-less}
 use Rattle.masks.proofs.Operators.{bit-or, disjoint-e, disjoint-i}
 use Rattle.masks.proofs.Tests.{and-i, and-l, and-r, or-cases, not-not, decide}
-use Rattle.terms.specs.Joins.{joinsWith, holdsOne, extended}
+use Rattle.terms.specs.Joins.{joinsWith, holdsOne, extended, joins, holdsShorter, leastOf, decisionTerms}
 use Rattle.terms.specs.Lists.{any, keep}
-use Rattle.terms.specs.Prime.{reduce, Implicant, Prime}
+use Rattle.terms.specs.Prime.{reduce, Implicant, Prime, Lists}
 use Rattle.terms.specs.Term.{has, mentions, variables, literals, without, extend, join, inside, conflict, IsTerm}
 use Rattle.terms.specs.declared.Term.{Term}
 use Rattle.terms.proofs.Conjunctions.{conj, joined-isTerm, joined-least, prime-joined, joined-prime, apart-prime, Joined}
 use Rattle.terms.proofs.Decisions.{choice, with-literal, no-literal, meet-prime, one-side}
 use Rattle.terms.proofs.Implicants.{Free, implicant-more, reduce-prime}
-use Rattle.terms.proofs.Listed.{Lists}
 use Rattle.terms.proofs.Sorted.{keep-out, keep-in, any-i, any-e, map-in, map-out}
 use Rattle.terms.proofs.Terms.{Inside, Unmentioned, mentions-i, join-l, join-r, has-below, join-isTerm, extend-without, inside-e}
 use Rattle.terms.proofs.Terms.{inside-i}
-
--- ---- the lists
--- each term of the one list joined with each of the other
-abbrev pub joins : List Term → List Term → List Term
-joins [] us = []
-joins (t ∷ ts) us = joinsWith t us ++ joins ts us
-
--- some term of the list is inside t and has fewer literals
-abbrev pub holdsShorter : List Term → Term → Bool
-holdsShorter us t = any (λ u. inside u t && ltb (literals u) (literals t)) us
-
--- the terms of the list with no shorter one of it inside
-unfoldable pub leastOf : List Term → List Term
-leastOf l = keep (λ t. not (holdsShorter l t)) l
-
--- the terms of a decision by x, from the terms of its sides
-unfoldable pub decisionTerms : ℕ → List Term → List Term → List Term
-decisionTerms x a b = extended x false b a ++ (extended x true a b ++ leastOf (joins a b))
 
 -- ---- the members of joined lists
 pub joins-in : (us l : List Term) (r u t : Term) → List·Memᴰ r l → List·Memᴰ u us → T (not (conflict r u)) → t ≡ join r u

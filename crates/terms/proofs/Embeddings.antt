@@ -64,6 +64,10 @@ rising-distinct [] r = tt
 rising-distinct (a ∷ l) r =
     (λ b m e. before-irrefl a (subst (λ (z : Term). T (before a z)) e (r .0 b m)), rising-distinct l (r .1))
 
+-- a list in order whose members are all in another is no longer
+pub rising-length : (l k : List Term) → Rising before l → ((t : Term) → List·Memᴰ t l → List·Memᴰ t k) → length l ≤ length k
+rising-length l k r h = into-length (λ t. t) l k (rising-distinct l r) h (λ t u m n e. e)
+
 module _ (N : ℕ) where
   -- the prime implicants of f go one to one into those of g
   pub record Embeds (f g : ℕ → Bool) : Type 0 where

@@ -13,7 +13,7 @@ use Rattle.masks.proofs.Operators.{bit-or}
 use Rattle.masks.proofs.Tests.{or-r, or-cases, along}
 use Rattle.terms.specs.Lists.{keep, sort, Rising}
 use Rattle.terms.specs.Order.{key, before}
-use Rattle.terms.specs.Prime.{prime, pairs, candidates, primes, Prime}
+use Rattle.terms.specs.Prime.{prime, pairs, candidates, primes, Prime, Lists}
 use Rattle.terms.specs.Term.{term, has, variables, IsTerm}
 use Rattle.terms.specs.declared.Term.{Term}
 use Rattle.terms.proofs.Implicants.{prime-e, prime-i}
@@ -66,13 +66,8 @@ module _ (N : ℕ) where
       pairs-mem t (below (2 ^ N)) (below (2 ^ N)) (below-mem (2 ^ N) (t .positive) (h .fits true))
       (below-mem (2 ^ N) (t .negative) (h .fits false))
 
-  -- the members of the list are exactly the prime implicants of f
-  pub record Lists (f : ℕ → Bool) (l : List Term) : Type 0 where
-    pub only : (t : Term) → List·Memᴰ t l → Prime N f t
-    pub every : (t : Term) → Prime N f t → List·Memᴰ t l
-
   module _ (f : ℕ → Bool) where
-    pub sort-lists : (l : List Term) → Lists f l → Lists f (sort before l)
+    pub sort-lists : (l : List Term) → Lists N f l → Lists N f (sort before l)
     sort-lists l h =
         record {
           only = λ t m. h .only t (sort-out before before-irrefl before-trans l t m);
@@ -80,7 +75,7 @@ module _ (N : ℕ) where
               (h .every t c);
         }
 
-    pub primes-lists : Lists f (primes N f)
+    pub primes-lists : Lists N f (primes N f)
     unfolding primes
     primes-lists =
         sort-lists (keep (prime N f) (candidates N))
@@ -93,11 +88,11 @@ module _ (N : ℕ) where
     unfolding primes
     primes-rising = sort-rising before before-irrefl before-trans (keep (prime N f) (candidates N))
 
-    pub primes-unique : (l : List Term) → Rising before l → Lists f l → l ≡ primes N f
+    pub primes-unique : (l : List Term) → Rising before l → Lists N f l → l ≡ primes N f
     primes-unique l r h =
         rising-unique before before-irrefl before-trans l (primes N f) r primes-rising
         (λ t m. primes-lists .every t (h .only t m)) (λ t m. h .every t (primes-lists .only t m))
 
     -- a list of exactly the prime implicants, in order, is the list of all
-    pub sort-primes : (l : List Term) → Lists f l → sort before l ≡ primes N f
+    pub sort-primes : (l : List Term) → Lists N f l → sort before l ≡ primes N f
     sort-primes l h = primes-unique (sort before l) (sort-rising before before-irrefl before-trans l) (sort-lists l h)

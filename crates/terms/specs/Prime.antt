@@ -1,7 +1,7 @@
 -- Implicants and prime implicants of a function of assignments. An assignment of N variables is a number below 2 ^ N.
 use Prim.Native.Nat.{ℕ, zero, suc, _^_, _<_}
 use mathlib.Core.Bool.{Bool, _&&_, not, cond}
-use mathlib.Core.List.{List, [], _∷_, _++_, map}
+use mathlib.Core.List.{List, [], _∷_, _++_, map, List·Memᴰ}
 use lib.Dec.{T}
 use Rattle.masks.specs.Numbers.{implied, every, below}
 use Rattle.terms.specs.Lists.{keep, sort}
@@ -45,3 +45,8 @@ pub record Prime (N : ℕ) (f : ℕ → Bool) (t : Term) : Type 0 where
   pub isTerm : IsTerm N t
   pub holds : Implicant N f t
   pub minimal : (x : ℕ) (b : Bool) → T (has t b x) → Implicant N f (without t x) → ⊥
+
+-- the members of the list are exactly the prime implicants of f
+pub record Lists (N : ℕ) (f : ℕ → Bool) (l : List Term) : Type 0 where
+  pub only : (t : Term) → List·Memᴰ t l → Prime N f t
+  pub every : (t : Term) → Prime N f t → List·Memᴰ t l

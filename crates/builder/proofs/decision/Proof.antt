@@ -11,9 +11,10 @@ use Rattle.terms.specs.declared.Term.{Term}
 use Rattle.insertion.specs.Filled.{bySign, Filled}
 use Rattle.insertion.specs.declared.Kept.{Kept}
 use Rattle.insertion.specs.declared.Kept.the-variants.{Count, Full}
+use Rattle.insertion.proofs.Again.{filled-even, filled-fits, filled-rising}
 use Rattle.insertion.proofs.Parts.{Even, even, filled-none}
 use Rattle.builder.specs.Made.{insertAll, Added, madeJoins, madeDecision}
-use Rattle.builder.proofs.Adding.{insertAll-append, rises, filled-even, filled-fits, filled-rising, added-then, added-full}
+use Rattle.builder.proofs.Adding.{insertAll-append, rises, added-then, added-full}
 use Rattle.builder.proofs.decision.Statement.{statement}
 use Rattle.builder.proofs.decision.Tie as tie
 

@@ -2,9 +2,9 @@
 use native.Mathlib.Omega.{arith}
 use borrow.Author.Needs.{needs}
 use borrow.Author.Tests.{le-leb, lt-leb}
+use Rattle.masks.proofs.Numbers.{product-le}
 use Rattle.table.specs.Node.{maxNodes}
 use Rattle.lists.specs.Capacity.{maxCapacity}
-use Rattle.listing.proofs.Bounds.{product-le}
 use Rattle.listing.proofs.is_enough.Statement.{statement}
 use Rattle.listing.proofs.is_enough.Tie as tie
 

@@ -5,6 +5,7 @@ use mathlib.Core.Bool.{Bool, true, false, not}
 use native.Mathlib.Omega.{arith}
 use lib.Seq.{length-take-le}
 use borrow.Author.Needs.{needs}
+use Rattle.masks.proofs.Numbers.{product-le}
 use Rattle.masks.proofs.Tests.{along}
 use Rattle.table.specs.Node.{maxNodes}
 use Rattle.circuits.proofs.Accepted.{accepted-e, Accepted}
@@ -12,7 +13,7 @@ use Rattle.lists.specs.Capacity.{maxCapacity}
 use Rattle.insertion.specs.Filled.{bySign}
 use Rattle.listing.specs.Listing.{lent, suffices}
 use Rattle.listing.proofs.Answers.{lists-short, lists-all, lists-lack}
-use Rattle.listing.proofs.Bounds.{nodes-le, product-le, enough, not-flip, Enough}
+use Rattle.listing.proofs.Bounds.{nodes-le, enough, not-flip, Enough}
 use Rattle.listing.proofs.list_accepted.Statement.{statement}
 use Rattle.listing.proofs.list_accepted.Tie as tie
 

@@ -4,7 +4,7 @@ use mathlib.Core.Path.{_≡_}
 use native.Mathlib.Omega.{arith}
 use borrow.Author.Needs.{needs}
 use borrow.Author.Tests.{le-leb, lt-leb, lt-ltb, le-ltb}
-use Rattle.listing.proofs.Bounds.{product-le}
+use Rattle.masks.proofs.Numbers.{product-le}
 use Rattle.listing.proofs.view.Statement.{statement}
 use Rattle.listing.proofs.view.Tie as tie
 

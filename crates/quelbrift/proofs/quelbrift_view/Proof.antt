@@ -4,8 +4,8 @@ use lib.ListN.{length}
 use Prim.Native.Nat.{_≤_, _*_}
 use native.Mathlib.Omega.{arith}
 use borrow.Author.Needs.{needs}
+use Rattle.masks.proofs.Numbers.{product-le}
 use Rattle.listing.specs.Listing.{viewed}
-use Rattle.listing.proofs.Bounds.{product-le}
 use Rattle.quelbrift.specs.Boundary.{doneWith}
 use Rattle.quelbrift.proofs.Placed.{placed-none, placed-some}
 use Rattle.quelbrift.proofs.quelbrift_view.Statement.{statement}

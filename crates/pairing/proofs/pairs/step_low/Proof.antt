@@ -1,0 +1,141 @@
+-- `pairing::pairs::step_low` meets its contract.
+use Prim.Native.Nat.{ℕ, _<_, _≤_}
+use mathlib.Core.Path.{_≡_, subst}
+use mathlib.Core.Bool.{Bool}
+use mathlib.Core.List.{List}
+use native.Mathlib.Nat.{le-of-lt}
+use native.Mathlib.Omega.{arith}
+use lib.ListN.{length-take, length-drop}
+use Rattle.terms.specs.Term.{termsOf}
+use Rattle.terms.specs.declared.Term.{Term}
+use Rattle.lists.specs.Scans.{termAt}
+use Rattle.insertion.specs.Filled.{bySign}
+use Rattle.settling.specs.Growth.{Grown, Growing}
+use Rattle.settling.specs.Sides.{leastJoins, SettledFrom}
+use Rattle.settling.specs.declared.counts.Growth.{Growth}
+use Rattle.settling.specs.declared.counts.Growth.the-variants.{To, Over}
+use borrow.Author.Needs.{needs}
+use Rattle.pairing.proofs.Steps.{stepped-low, recounted}
+use Rattle.pairing.proofs.pairs.step_low.Statement.{statement}
+use Rattle.pairing.proofs.pairs.step_low.Tie as tie
+
+abbrev start : tie.After-settle-row → tie.Start
+start p = p .before .before .before .before .before .before .before .before .before .before .before .before .before .before .before .before .before .before .before
+
+abbrev then : tie.After-settle-row → Bool → List ℕ
+then p = bySign (p .settle-row .last .0) (p .settle-row .last .1 .0)
+
+-- what became of the row
+told : (p : tie.After-settle-row) (r : Growth) → p .settle-row .result ≡ r
+    → let x = start p .args in
+    let least : List Term = leastJoins (termsOf (x .ap .now) (x .an .now)) (termsOf (x .bp .now) (x .bn .now)) in
+    Grown least least (λ l. SettledFrom least l (termAt (x .ap .now) (x .an .now) (x .turn .low .at)) (x .bp .now) (x .bn .now) (x .turn .high .at))
+    (bySign (x .positives .now) (x .negatives .now)) (x .turn .listed) (then p) (p .settle-row .last .1 .1 .0) r
+told p r e =
+    let x = start p .args in
+    let least : List Term = leastJoins (termsOf (x .ap .now) (x .an .now)) (termsOf (x .bp .now) (x .bn .now)) in
+    subst
+    (Grown least least (λ l. SettledFrom least l (termAt (x .ap .now) (x .an .now) (x .turn .low .at)) (x .bp .now) (x .bn .now) (x .turn .high .at))
+    (bySign (x .positives .now) (x .negatives .now)) (x .turn .listed) (then p) (p .settle-row .last .1 .1 .0)) e (p .settle-row .ensures)
+
+hint-at-requires : tie.Need-hint-at-requires
+hint-at-requires c κs = search needs
+
+sub-settle-row : tie.Need-sub-settle-row
+sub-settle-row c = search needs
+
+part-settle-row-start : tie.Need-part-settle-row-start
+part-settle-row-start c = search needs
+
+part-settle-row-end : tie.Need-part-settle-row-end
+part-settle-row-end c = search needs
+
+sub-settle-row-2 : tie.Need-sub-settle-row-2
+sub-settle-row-2 c = search needs
+
+part-settle-row-start-2 : tie.Need-part-settle-row-start-2
+part-settle-row-start-2 c = search needs
+
+part-settle-row-end-2 : tie.Need-part-settle-row-end-2
+part-settle-row-end-2 c = search needs
+
+settle-row-requires : tie.Need-settle-row-requires
+settle-row-requires c κs = let s = c .before .before .before .before .before .before .before .before .before .before .before .before .before .before .before .before .before .before in (recounted (s .pre .0 .growing) (s .args .turn .low .cost), (s .pre .0 .low-left, simp (length-take, length-drop) (omega (arith, s .pre .1 .1))))
+
+enum-known-c : tie.Need-enum-known-c
+enum-known-c c = search needs
+
+enum-told : tie.Need-enum-told
+enum-told c = search needs
+
+same-length : tie.Need-same-length
+same-length c = search needs
+
+same-length-2 : tie.Need-same-length-2
+same-length-2 c = search needs
+
+same-length-3 : tie.Need-same-length-3
+same-length-3 c = search needs
+
+same-length-4 : tie.Need-same-length-4
+same-length-4 c = search needs
+
+same-length-5 : tie.Need-same-length-5
+same-length-5 c = search needs
+
+returns : tie.Need-returns
+returns c = told (c .before .before .before .before .before .before .before .before .before .before .before .before) Over (c .enum-told .given .1)
+
+add-t28 : tie.Need-add-t28
+add-t28 c = let q = start (c .before .before .before .before .before .before .before .before .before .before .before .before .before) .pre .0 in omega (arith, q .low-left, q .growing .at .few-low)
+
+same-length-6 : tie.Need-same-length-6
+same-length-6 c = search needs
+
+same-length-7 : tie.Need-same-length-7
+same-length-7 c = search needs
+
+same-length-8 : tie.Need-same-length-8
+same-length-8 c = search needs
+
+same-length-9 : tie.Need-same-length-9
+same-length-9 c = search needs
+
+same-length-10 : tie.Need-same-length-10
+same-length-10 c = search needs
+
+returns-2 : tie.Need-returns-2
+returns-2 c =
+    let k = c .before .before .before in
+    let p = k .before .before .before .before .before .before .before .before .before .before .before .before in
+    let q = start p .pre .0 in
+    let t = told p (To (k .c .given .0 .0)) (k .c .given .1) in
+    (t .0, t .1, t .2, stepped-low (q .growing .at) (q .low-left) (le-of-lt (q .high-left)) (t .3))
+
+pub step-low-spec : {M : Type 1} → statement M
+step-low-spec =
+    tie.close
+    (tie.spec
+    hint-at-requires
+    sub-settle-row
+    part-settle-row-start
+    part-settle-row-end
+    sub-settle-row-2
+    part-settle-row-start-2
+    part-settle-row-end-2
+    settle-row-requires
+    enum-known-c
+    enum-told
+    same-length
+    same-length-2
+    same-length-3
+    same-length-4
+    same-length-5
+    returns
+    add-t28
+    same-length-6
+    same-length-7
+    same-length-8
+    same-length-9
+    same-length-10
+    returns-2)

@@ -1,0 +1,2 @@
+// All pairs of terms of two sides.
+pub mod pairs;

@@ -1,336 +1,241 @@
-//! The engine's algorithm written by hand: the same checks, the same loops over pairs of terms, the same sorted insertion.
-use quelbrift::{Refusal, Table, Term};
+//! The engine's algorithm written by hand. The least joins of a decision are kept as they are found: a join with a kept term inside is
+//! settled, any other is reduced to a least one, which is new. The joins that a kept term settles are found 64 at a time.
+use crate::columns::{Bits, Columns, VARIABLES, WORDS};
+use crate::listing::{self, Lent, Listed};
+use crate::part::{Full, Part};
+use crate::steps::{Steps, Uncounted};
+use crate::terms::{common, conflict, extend, inside, join, size, without, Term, Terms, EMPTY};
+use quelbrift::Table;
 
-/// A list of terms: the positive masks, and the negative masks.
-#[derive(Clone, Copy)]
-struct Terms<'a> {
-    positives: &'a [u64],
-    negatives: &'a [u64],
+/// The place of no kept term.
+const NONE: u16 = 4096;
+
+/// A side of a decision: its terms, and for each the place of a kept term that was inside its last join.
+struct Side<'a> {
+    terms: Terms<'a>,
+    hints: &'a mut [u16],
 }
 
-impl Terms<'_> {
-    fn get(&self, k: usize) -> Option<Term> {
-        Some(Term { positive: *self.positives.get(k)?, negative: *self.negatives.get(k)? })
-    }
-
-    fn iter(&self) -> impl Iterator<Item = Term> + '_ {
-        self.positives.iter().zip(self.negatives).map(|(&positive, &negative)| Term { positive, negative })
-    }
-}
-
-/// The term with no literal.
-const EMPTY: Term = Term { positive: 0, negative: 0 };
-
-/// Each literal of t is one of u.
-fn inside(t: Term, u: Term) -> bool {
-    t.positive & !u.positive == 0 && t.negative & !u.negative == 0
-}
-
-fn conflict(t: Term, u: Term) -> bool {
-    (t.positive & u.negative) | (t.negative & u.positive) != 0
-}
-
-fn join(t: Term, u: Term) -> Term {
-    Term { positive: t.positive | u.positive, negative: t.negative | u.negative }
-}
-
-/// The order: fewer literals, then the smaller mask of all variables, then the smaller positive mask.
-pub fn key(t: Term) -> (u32, u64, u64) {
-    let variables = t.positive | t.negative;
-    (variables.count_ones(), variables, t.positive)
-}
-
-fn extend(t: Term, x: u32, sign: bool) -> Term {
-    let bit = 1 << x;
-    match sign {
-        true => Term { positive: t.positive | bit, ..t },
-        false => Term { negative: t.negative | bit, ..t },
-    }
-}
-
-/// More terms than the part has entries.
-struct Full;
-
-/// A node's own part of the buffers, and how many terms it holds.
-struct Part<'a> {
-    positives: &'a mut [u64],
-    negatives: &'a mut [u64],
-    count: usize,
-}
-
-impl Part<'_> {
-    /// The place of t in the order, or none where it is there.
-    fn place(&self, t: Term) -> Option<usize> {
-        if self.count > 0 && key(self.term(self.count - 1)) < key(t) {
-            return Some(self.count);
-        }
-        let (mut low, mut high) = (0, self.count);
-        while low < high {
-            let middle = low + (high - low) / 2;
-            if key(self.term(middle)) < key(t) {
-                low = middle + 1;
-            } else {
-                high = middle;
-            }
-        }
-        (low == self.count || self.term(low) != t).then_some(low)
-    }
-
-    fn term(&self, k: usize) -> Term {
-        Term { positive: self.positives[k], negative: self.negatives[k] }
-    }
-
-    /// Inserts t at its place in the order, unless it is there.
-    fn insert(&mut self, t: Term) -> Result<(), Full> {
-        match self.place(t) {
-            Some(at) => self.insert_at(at, t),
-            None => Ok(()),
-        }
-    }
-
-    /// Puts t at a place; the terms from there on move up by one.
-    fn insert_at(&mut self, at: usize, t: Term) -> Result<(), Full> {
-        if self.count == self.positives.len() {
-            return Err(Full);
-        }
-        self.positives.copy_within(at..self.count, at + 1);
-        self.negatives.copy_within(at..self.count, at + 1);
-        self.positives[at] = t.positive;
-        self.negatives[at] = t.negative;
-        self.count += 1;
-        Ok(())
-    }
-}
-
-/// b is inside t, and a literal of t is neither in a nor in b.
-fn is_short(t: Term, a: Term, b: Term) -> bool {
-    inside(b, t) && !inside(t, join(a, b))
-}
-
-/// The terms of a and b at two places are inside t, and their join lacks a literal of t.
-fn is_shorter_at(a: Terms, b: Terms, k: usize, l: usize, t: Term) -> bool {
-    let pair = a.get(k).zip(b.get(l));
-    pair.is_some_and(|(u, v)| inside(u, t) && is_short(t, u, v))
-}
-
-/// The places of a term of a and a term of b inside t whose join lacks a literal of t.
-fn find_shorter(a: Terms, b: Terms, t: Term) -> Option<(usize, usize)> {
+/// A join of a term of a and a term of b inside t that lacks a literal of t.
+fn find_shorter(steps: &mut impl Steps, a: Terms, b: Terms, t: Term) -> Option<Term> {
     let mut shared = EMPTY;
-    for (k, u) in a.iter().enumerate() {
-        if is_short(t, shared, u) {
-            let mut next = t;
-            for (l, v) in b.iter().enumerate().filter(|&(_, v)| inside(v, t)) {
-                if !inside(t, join(u, v)) {
-                    return Some((k, l));
-                }
-                next = Term { positive: next.positive & v.positive, negative: next.negative & v.negative };
-            }
-            shared = next;
+    for u in a.iter() {
+        steps.add(1);
+        if !inside(u, t) || inside(t, join(shared, u)) {
+            continue;
         }
+        let mut next = t;
+        for v in b.iter().inspect(|_| steps.add(1)).filter(|&v| inside(v, t)) {
+            if !inside(t, join(u, v)) {
+                return Some(join(u, v));
+            }
+            next = common(next, v);
+        }
+        shared = next;
     }
     None
 }
 
-/// Some term of the list is inside t.
-fn holds_one(terms: Terms, t: Term) -> bool {
-    terms.iter().any(|u| inside(u, t))
+/// A least join inside a join.
+fn reduce(steps: &mut impl Steps, a: Terms, b: Terms, t: Term) -> Term {
+    let mut least = t;
+    while let Some(shorter) = find_shorter(steps, a, b, least) {
+        least = shorter;
+    }
+    least
 }
 
-/// Adds the terms that have no term of the other side inside, each with the literal of x.
-fn extend_all(part: &mut Part, x: u32, sign: bool, other: Terms, terms: Terms) -> Result<(), Full> {
-    for t in terms.iter() {
-        if !holds_one(other, t) {
-            part.insert(extend(t, x, sign))?;
-        }
+/// The place of a term of the list inside t: a guess first, then t itself, then the terms with fewer literals, whose number is given.
+fn find_inside(steps: &mut impl Steps, terms: Terms, fewer: usize, guess: usize, t: Term) -> Option<usize> {
+    if terms.get(guess).is_some_and(|u| inside(u, t)) {
+        return Some(guess);
     }
-    Ok(())
+    let own = terms.place(t);
+    if terms.get(own) == Some(t) {
+        return Some(own);
+    }
+    let found = terms.first(fewer).iter().position(|u| inside(u, t));
+    steps.add(found.unwrap_or(fewer));
+    found
 }
 
-/// For each term of b the place of a term of a that showed a join with it not to be least.
-type Partners = [u16; 4096];
+/// Kept term k is there and inside t.
+fn covers(kept: &Part, k: u16, t: Term) -> bool {
+    let k = k as usize;
+    k < kept.count && kept.positives[k] & !t.positive == 0 && kept.negatives[k] & !t.negative == 0
+}
 
-/// Adds the least joins of t with the terms of b; a term with one of b inside is the only one of its joins. The pair that showed the
-/// last join not to be least is tried first, then the partner of the term of b.
-fn join_with(part: &mut Part, partners: &mut Partners, a: Terms, b: Terms, t: Term) -> Result<(), Full> {
-    if holds_one(b, t) {
-        return part.insert(t);
-    }
-    let (mut first, mut second) = (0, 0);
-    for (at, u) in b.iter().enumerate().filter(|&(_, u)| !conflict(t, u)) {
-        let joined = join(t, u);
-        let partner = partners[at] as usize;
-        let tried = is_shorter_at(a, b, first, second, joined) || is_shorter_at(a, b, partner, at, joined);
-        if tried || part.place(joined).is_none() {
-            continue;
+/// The list of a decision, and its least joins so far, in the order in which they were found, so that a place stays a term's own.
+struct Joins<'a, 'b, S> {
+    list: &'a mut Part<'b>,
+    kept: Part<'a>,
+    steps: &'a mut S,
+}
+
+impl<S: Steps> Joins<'_, '_, S> {
+    /// Lists t, and keeps it where it is new.
+    fn keep(&mut self, t: Term) -> Result<(), Full> {
+        if self.list.insert(t)? {
+            self.kept.push(t);
         }
-        match find_shorter(a, b, joined) {
-            Some(pair) => {
-                (first, second) = pair;
-                partners[at] = first as u16;
+        Ok(())
+    }
+
+    /// Lists each term of a side: as it is, and kept, where the other side has a term inside it, else with the literal of x. Returns the
+    /// number of those with x.
+    fn add_side(&mut self, x: u32, sign: bool, other: Terms, side: &mut Side) -> Result<usize, Full> {
+        let (mut fewer, mut guess, mut open) = (0, 0, 0);
+        for (k, t) in side.terms.iter().enumerate() {
+            while fewer < other.count() && size(other.term(fewer)) < size(t) {
+                fewer += 1;
             }
-            None => part.insert(joined)?,
-        }
-    }
-    Ok(())
-}
-
-fn decision(part: &mut Part, x: u32, a: Terms, b: Terms) -> Result<(), Full> {
-    extend_all(part, x, false, b, a)?;
-    extend_all(part, x, true, a, b)?;
-    let mut partners = [0; 4096];
-    for t in a.iter() {
-        join_with(part, &mut partners, a, b, t)?;
-    }
-    Ok(())
-}
-
-fn conjunction(part: &mut Part, a: Terms, b: Terms) -> Result<(), Full> {
-    for u in b.iter() {
-        for t in a.iter() {
-            if !conflict(u, t) {
-                part.insert(join(u, t))?;
+            self.steps.add(1);
+            if let Some(found) = find_inside(self.steps, other, fewer, guess, t) {
+                guess = found + 1;
+                self.keep(t)?;
+                side.hints[k] = self.kept.count as u16 - 1;
+            } else {
+                side.hints[k] = NONE;
+                self.list.insert(extend(t, x, sign))?;
+                open += 1;
             }
         }
+        Ok(open)
     }
-    Ok(())
-}
 
-fn node(words: &[u32], i: usize) -> [u32; 4] {
-    [words[4 * i], words[4 * i + 1], words[4 * i + 2], words[4 * i + 3]]
-}
-
-/// The children of a node.
-fn children(node: [u32; 4]) -> &'static [usize] {
-    match node[0] {
-        4 | 5 => &[2, 3],
-        _ => &[],
-    }
-}
-
-fn malformed(node: [u32; 4], i: usize, variables: u32) -> bool {
-    let [kind, x, a, b] = node;
-    let below = (a as usize) < i && (b as usize) < i;
-    match kind {
-        0 | 1 => x != 0 || a != 0 || b != 0,
-        2 | 3 => x >= variables || a != 0 || b != 0,
-        4 => x >= variables || !below,
-        5 => x != 0 || !below,
-        _ => true,
-    }
-}
-
-/// The variables named at each node or below it.
-fn supports(words: &[u32], n: usize) -> Vec<u64> {
-    let mut supports: Vec<u64> = Vec::with_capacity(n);
-    for i in 0..n {
-        let node = node(words, i);
-        let named = if matches!(node[0], 2..=4) { 1 << node[1] } else { 0 };
-        supports.push(children(node).iter().fold(named, |all, &c| all | supports[node[c] as usize]));
-    }
-    supports
-}
-
-fn first_parentless(words: &[u32], n: usize) -> Option<usize> {
-    let mut marked = vec![false; n];
-    for i in 0..n {
-        let node = node(words, i);
-        for &c in children(node) {
-            marked[node[c] as usize] = true;
+    /// Finds kept terms inside the joins of t with the terms of a side from a place on whose hints fail; these are left where there is
+    /// none. Returns what it cost.
+    #[inline(never)]
+    fn renew(&mut self, side: &mut Side, columns: &Columns, left: &mut Bits, from: usize, t: Term) -> usize {
+        let (mut all, mut cost) = (t, 1);
+        left[..columns.words].fill(0);
+        self.steps.add(side.terms.count() - from + self.kept.count);
+        for j in from..side.terms.count() {
+            let u = side.terms.term(j);
+            if conflict(t, u) || covers(&self.kept, side.hints[j], join(t, u)) {
+                continue;
+            }
+            left[j / 64] |= 1 << (j % 64);
+            all = join(all, u);
         }
-    }
-    (0..n - 1).find(|&i| !marked[i])
-}
-
-fn undecomposable(words: &[u32], supports: &[u64], i: usize) -> bool {
-    let [kind, x, a, b] = node(words, i);
-    match kind {
-        4 => (supports[a as usize] | supports[b as usize]) >> x & 1 == 1,
-        5 => supports[a as usize] & supports[b as usize] != 0,
-        _ => false,
-    }
-}
-
-fn unreduced(words: &[u32], i: usize) -> bool {
-    let [kind, _, a, b] = node(words, i);
-    let (low, high) = (words[4 * a as usize] == 0, words[4 * b as usize] == 0);
-    match kind {
-        4 => low && high,
-        5 => low || high,
-        _ => false,
-    }
-}
-
-/// The rules of an accepted table, each with its lowest node.
-fn check(table: Table) -> Result<(), Refusal> {
-    let Table { words, variables, nodes } = table;
-    let n = nodes as usize;
-    if !(1..=40).contains(&variables) || !(1..=1024).contains(&n) || words.len() < 4 * n {
-        return Err(Refusal { number: 21, place: 0 });
-    }
-    let refuse = |number, found: Option<usize>| match found {
-        Some(i) => Err(Refusal { number, place: i as u64 }),
-        None => Ok(()),
-    };
-    refuse(22, (0..n).find(|&i| malformed(node(words, i), i, variables)))?;
-    refuse(23, first_parentless(words, n))?;
-    let supports = supports(words, n);
-    refuse(24, (0..n).find(|&i| undecomposable(words, &supports, i)))?;
-    refuse(25, (0..n).find(|&i| unreduced(words, i)))
-}
-
-/// Makes the terms of one node in its own part, from its children's terms in the parts below.
-fn fill(part: &mut Part, node: [u32; 4], below: Terms, counts: &[u32], capacity: usize) -> Result<(), Full> {
-    let [kind, x, a, b] = node;
-    let terms = |child: u32| {
-        let start = child as usize * capacity;
-        let end = start + counts[child as usize] as usize;
-        Terms { positives: &below.positives[start..end], negatives: &below.negatives[start..end] }
-    };
-    match kind {
-        1 => part.insert(EMPTY),
-        2 | 3 => part.insert(extend(EMPTY, x, kind == 2)),
-        4 => decision(part, x, terms(a), terms(b)),
-        5 => conjunction(part, terms(a), terms(b)),
-        _ => Ok(()),
-    }
-}
-
-/// Fills the nodes' parts, the lowest node first; false where a node has more terms than the capacity.
-fn fill_all(table: Table, capacity: usize, rows: [&mut [u64]; 2], counts: &mut [u32]) -> bool {
-    let [positives, negatives] = rows;
-    for i in 0..table.nodes as usize {
-        let (low, high) = positives.split_at_mut(i * capacity);
-        let (low_negatives, high_negatives) = negatives.split_at_mut(i * capacity);
-        let below = Terms { positives: low, negatives: low_negatives };
-        let mut part = Part { positives: &mut high[..capacity], negatives: &mut high_negatives[..capacity], count: 0 };
-        if fill(&mut part, node(table.words, i), below, counts, capacity).is_err() {
-            return false;
+        for (k, u) in self.kept.terms().iter().enumerate().filter(|&(_, u)| inside(u, all)) {
+            cost += columns.words;
+            if !columns.spread(self.steps, left, side.hints, without(u, t), k) {
+                return cost;
+            }
         }
-        counts[i] = part.count as u32;
+        cost
     }
-    true
+
+    /// Joins t with the terms of a side from a place on: inside each join that no kept term settles, a least one is kept. Returns what
+    /// it cost.
+    #[inline(never)]
+    fn join_with(
+        &mut self,
+        pair: [Terms; 2],
+        side: &mut Side,
+        columns: &mut Columns,
+        left: &mut Bits,
+        from: usize,
+        t: Term,
+    ) -> Result<usize, Full> {
+        let mut cost = 0;
+        self.steps.add(side.terms.count() - from);
+        for j in from..side.terms.count() {
+            let u = side.terms.term(j);
+            let joined = join(t, u);
+            if conflict(t, u) || covers(&self.kept, side.hints[j], joined) {
+                continue;
+            }
+            if cost == 0 {
+                if !columns.made {
+                    columns.make(self.steps, side.terms);
+                }
+                cost = self.renew(side, columns, left, j, t);
+                if covers(&self.kept, side.hints[j], joined) {
+                    continue;
+                }
+            }
+            let least = reduce(self.steps, pair[0], pair[1], joined);
+            self.keep(least)?;
+            columns.spread(self.steps, left, side.hints, without(least, t), self.kept.count - 1);
+        }
+        Ok(cost)
+    }
+
+    /// Joins all terms of a and b: the side whose next terms cost less goes on.
+    fn join_all(&mut self, a: &mut Side, b: &mut Side, columns: [&mut [u64]; 2]) -> Result<(), Full> {
+        let [of_a, of_b] = columns;
+        let (pair, [p, q]) = ([a.terms, b.terms], [a.terms.count(), b.terms.count()]);
+        let (mut of_a, mut of_b) = (Columns::new(of_a, p), Columns::new(of_b, q));
+        let (mut i, mut j, mut cost_a, mut cost_b, mut left) = (0, 0, 0, 0, [0; WORDS]);
+        while i < p && j < q {
+            if cost_a * (p - i) <= cost_b * (q - j) {
+                let t = a.terms.term(i);
+                if !covers(&self.kept, a.hints[i], t) {
+                    cost_a = self.join_with(pair, b, &mut of_b, &mut left, j, t)?;
+                }
+                i += 1;
+            } else {
+                let t = b.terms.term(j);
+                if !covers(&self.kept, b.hints[j], t) {
+                    cost_b = self.join_with(pair, a, &mut of_a, &mut left, i, t)?;
+                }
+                j += 1;
+            }
+        }
+        Ok(())
+    }
+
+    #[inline(never)]
+    fn join_many(&mut self, a: &mut Side, b: &mut Side) -> Result<(), Full> {
+        self.join_all(a, b, [&mut [0; 2 * VARIABLES * WORDS], &mut [0; 2 * VARIABLES * WORDS]])
+    }
+
+    fn both_sides(&mut self, x: u32, a: &mut Side, b: &mut Side) -> Result<(), Full> {
+        let open_low = self.add_side(x, false, b.terms, a)?;
+        let open_high = self.add_side(x, true, a.terms, b)?;
+        if open_low == 0 || open_high == 0 {
+            return Ok(());
+        }
+        if a.terms.count() <= 64 && b.terms.count() <= 64 {
+            return self.join_all(a, b, [&mut [0; 2 * VARIABLES], &mut [0; 2 * VARIABLES]]);
+        }
+        self.join_many(a, b)
+    }
 }
 
-/// Done, or refused with a number.
-pub type Listed = Result<(), Refusal>;
+/// A decision with room for some kept terms and some hints a side.
+#[inline(never)]
+fn decide<const KEPT: usize, const HINTS: usize>(
+    list: &mut Part,
+    steps: &mut impl Steps,
+    x: u32,
+    a: Terms,
+    b: Terms,
+) -> Result<(), Full> {
+    let (positives, negatives) = (&mut [0; KEPT], &mut [0; KEPT]);
+    let mut joins = Joins { list, kept: Part { positives, negatives, count: 0 }, steps };
+    joins.both_sides(x, &mut Side { terms: a, hints: &mut [0; HINTS] }, &mut Side { terms: b, hints: &mut [0; HINTS] })
+}
+
+/// Fills the empty list with the prime implicants of a decision by x over sides with the terms a and b; short sides have short arrays.
+pub fn decision(list: &mut Part, steps: &mut impl Steps, x: u32, a: Terms, b: Terms) -> Result<(), Full> {
+    if a.count() > 64 || b.count() > 64 {
+        return decide::<4096, 4096>(list, steps, x, a, b);
+    }
+    if a.count() * b.count() > 64 {
+        return decide::<1024, 64>(list, steps, x, a, b);
+    }
+    decide::<64, 64>(list, steps, x, a, b)
+}
+
+/// The same as `list`, and counts the steps of its decisions.
+pub fn list_counting(steps: &mut impl Steps, table: Table, capacity: u32, lent: Lent) -> Listed {
+    listing::list(|list: &mut Part, x, a: Terms, b: Terms| decision(list, steps, x, a, b), table, capacity, lent)
+}
 
 /// Lists the prime implicants of every node; the same arguments and answer as the engine's listing.
 pub fn list(table: Table, capacity: u32, positives: &mut [u64], negatives: &mut [u64], counts: &mut [u32]) -> Listed {
-    check(table)?;
-    let (n, capacity) = (table.nodes as usize, capacity as usize);
-    let total = n * capacity;
-    if capacity > 4096 || positives.len() < total || negatives.len() < total || counts.len() < n {
-        return Err(Refusal { number: 41, place: 0 });
-    }
-    let (positives, negatives, counts) = (&mut positives[..total], &mut negatives[..total], &mut counts[..n]);
-    positives.fill(0);
-    negatives.fill(0);
-    counts.fill(0);
-    if fill_all(table, capacity, [positives, negatives], counts) {
-        return Ok(());
-    }
-    positives.fill(0);
-    negatives.fill(0);
-    counts.fill(0);
-    Err(Refusal { number: 42, place: 0 })
+    list_counting(&mut Uncounted, table, capacity, Lent::new(table, capacity, positives, negatives, counts)?)
 }

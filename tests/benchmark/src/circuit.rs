@@ -88,6 +88,7 @@ impl Circuit {
         let high = self.at_least(k - 1, rest);
         self.decision(x, low, high)
     }
+
     /// At least k of the variables are true, or the node is; the variables are not in the node.
     pub fn at_least_or(&mut self, k: usize, variables: &[u32], node: u32) -> u32 {
         if k == 0 {
@@ -101,4 +102,45 @@ impl Circuit {
         let high = self.at_least_or(k - 1, rest, node);
         self.decision(x, low, high)
     }
+
+    /// Some term is true: masks of variables, none inside another, the variables of `negatives` with negative literals; as an ordered
+    /// decision diagram, or none where the table comes to have more than some nodes.
+    pub fn some_of(&mut self, masks: &[u64], negatives: u64, most: usize) -> Option<u32> {
+        let mut sorted = masks.to_vec();
+        sorted.sort_unstable();
+        self.some_of_sorted(sorted, negatives, most, &mut HashMap::new())
+    }
+
+    fn some_of_sorted(&mut self, masks: Vec<u64>, negatives: u64, most: usize, made: &mut HashMap<Vec<u64>, u32>) -> Option<u32> {
+        if let Some(&number) = made.get(&masks) {
+            return Some(number);
+        }
+        let all = masks.iter().fold(0, |all, mask| all | mask);
+        if all == 0 {
+            return Some(self.constant(!masks.is_empty()));
+        }
+        let (x, bit) = (all.trailing_zeros(), all & all.wrapping_neg());
+        let is_negative = negatives & bit != 0;
+        let number = if masks == [bit] {
+            self.shared([2 + u32::from(is_negative), x, 0, 0])
+        } else {
+            let (with, without) = cofactors(&masks, bit);
+            let with = self.some_of_sorted(with, negatives, most, made)?;
+            let without = self.some_of_sorted(without, negatives, most, made)?;
+            let (low, high) = if is_negative { (with, without) } else { (without, with) };
+            self.decision(x, low, high)
+        };
+        made.insert(masks, number);
+        (self.nodes() <= most).then_some(number)
+    }
+}
+
+/// The least masks where a variable's literal is true, and where it is false; all sorted.
+fn cofactors(masks: &[u64], bit: u64) -> (Vec<u64>, Vec<u64>) {
+    let (with, without): (Vec<u64>, Vec<u64>) = masks.iter().partition(|&mask| mask & bit != 0);
+    let mut either: Vec<u64> = with.iter().map(|mask| mask ^ bit).collect();
+    let others: Vec<u64> = without.iter().copied().filter(|mask| !either.iter().any(|inside| inside & !mask == 0)).collect();
+    either.extend(others);
+    either.sort_unstable();
+    (either, without)
 }

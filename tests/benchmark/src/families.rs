@@ -5,10 +5,16 @@ use crate::circuit::Circuit;
 pub struct Family {
     pub name: String,
     pub circuit: Circuit,
+    /// The algorithm before takes seconds to minutes.
+    pub slow: bool,
 }
 
-fn named(name: String, circuit: Circuit) -> Family {
-    Family { name, circuit }
+pub fn named(name: String, circuit: Circuit) -> Family {
+    Family { name, circuit, slow: false }
+}
+
+fn slow(family: Family) -> Family {
+    Family { slow: true, ..family }
 }
 
 fn range(start: u32, length: u32) -> Vec<u32> {
@@ -162,8 +168,7 @@ pub fn one_join_late(k: usize, m: u32, levels: u32) -> Family {
     let (most_own, most_other, all_own) = (every(&mut c, &own[1..]), every(&mut c, &other[1..]), every(&mut c, &own));
     let low = c.decision(other[0], most_own, g);
     let (low, high) = (c.conjunction(most_other, low), c.conjunction(all_own, h));
-    let copies = (0..1 << levels).map(|_| c.fresh_decision(0, low, high)).collect();
-    tree(&mut c, copies, 2 * m + 1);
+    copies(&mut c, low, high, 2 * m + 1);
     named(format!("{} times one join, seen late, at least {k} of {m}", 1 << levels), c)
 }
 
@@ -185,6 +190,12 @@ fn tree(c: &mut Circuit, leaves: Vec<u32>, start: u32) {
         layer = layer.chunks(2).map(|pair| c.fresh_decision(x, pair[0], pair[1])).collect();
         x += 1;
     }
+}
+
+/// The decision by variable 0 over two sides, below a tree of decisions by the variables from `start` on: once for each of its leaves.
+pub fn copies(c: &mut Circuit, low: u32, high: u32, start: u32) {
+    let leaves = (0..1 << (c.variables - start)).map(|_| c.fresh_decision(0, low, high)).collect();
+    tree(c, leaves, start);
 }
 
 /// A tree of decisions whose leaves are all the product of clauses of the given sizes.
@@ -243,21 +254,88 @@ pub fn more_on_one_side(k: usize, m: u32, more_high: bool) -> Family {
     named(format!("more {}, at least {k} of {m}", if more_high { "high" } else { "low" }), c)
 }
 
+/// The two sides of `alternating` from variable 1 on: p = C(m, k) terms, and 2 q = 2 C(o, l) and two last ones.
+fn alternating_sides(c: &mut Circuit, k: usize, m: u32, l: usize, o: u32) -> (u32, u32) {
+    let u = range(3 + m + o, l as u32);
+    let (all_u, g) = (every(c, &u), c.at_least(k, &range(3, m)));
+    let few = c.conjunction(all_u, g);
+    let (one_of_two, h) = (c.at_least(1, &[1, 2]), c.at_least(l, &range(3 + m, o)));
+    let rest = every_or(c, &u, h);
+    (few, c.conjunction(one_of_two, rest))
+}
+
 /// A decision whose low side has p = C(m, k) terms and whose high side 2 q = 2 C(o, l) and two last ones. Of two joins in turn, the one
 /// holds the join with the one last term, the other that with the other. It stands 2^levels times below a tree of decisions.
 pub fn alternating(k: usize, m: u32, l: usize, o: u32, levels: u32) -> Family {
-    let size = l as u32;
-    let free = 3 + m + o + size;
+    let free = 3 + m + o + l as u32;
     let mut c = Circuit::new(free + levels);
-    let u = range(3 + m + o, size);
-    let (all_u, g) = (every(&mut c, &u), c.at_least(k, &range(3, m)));
-    let low = c.conjunction(all_u, g);
-    let (one_of_two, h) = (c.at_least(1, &[1, 2]), c.at_least(l, &range(3 + m, o)));
-    let rest = every_or(&mut c, &u, h);
-    let high = c.conjunction(one_of_two, rest);
-    let copies = (0..1 << levels).map(|_| c.fresh_decision(0, low, high)).collect();
-    tree(&mut c, copies, free);
+    let (low, high) = alternating_sides(&mut c, k, m, l, o);
+    copies(&mut c, low, high, free);
     named(format!("{} times alternating, at least {k} of {m} and {l} of {o}", 1 << levels), c)
+}
+
+/// `alternating` with its sides exchanged: the terms of the low side are of two classes, by the last term that settles their joins.
+pub fn classes(k: usize, m: u32, l: usize, o: u32, levels: u32) -> Family {
+    let free = 3 + m + o + l as u32;
+    let mut c = Circuit::new(free + levels);
+    let (high, low) = alternating_sides(&mut c, k, m, l, o);
+    copies(&mut c, low, high, free);
+    named(format!("{} times classes, at least {k} of {m} and {l} of {o}", 1 << levels), c)
+}
+
+/// The three ways to pair four variables, as masks of two pairs each.
+const PAIRINGS: [[u32; 2]; 3] = [[0b0101, 0b1010], [0b0110, 0b1001], [0b0011, 0b1100]];
+
+/// A diagram of the four variables from `start` on: its end is the first, or second, of `ends` where only a pair of the one, or of the
+/// other, pairing is true, the third where pairs of both are, and false elsewhere.
+fn pairs(c: &mut Circuit, start: u32, pairings: [[u32; 2]; 2], ends: [u32; 3]) -> u32 {
+    fn made(c: &mut Circuit, start: u32, depth: u32, values: u32, end: &dyn Fn(u32) -> u32) -> u32 {
+        if depth == 4 {
+            return end(values);
+        }
+        let low = made(c, start, depth + 1, values, end);
+        let high = made(c, start, depth + 1, values | 1 << depth, end);
+        if low == high {
+            return low;
+        }
+        c.decision(start + depth, low, high)
+    }
+    let none = c.constant(false);
+    let has = |values: u32, pairing: [u32; 2]| pairing.iter().any(|&pair| pair & !values == 0);
+    let end = |values| match pairings.map(|pairing| has(values, pairing)) {
+        [true, false] => ends[0],
+        [false, true] => ends[1],
+        [true, true] => ends[2],
+        _ => none,
+    };
+    made(c, start, 0, 0, &end)
+}
+
+/// For each of n digits a pair of the one pairing is true, and the node too; or for each digit a pair of the other pairing.
+fn digits(c: &mut Circuit, n: u32, pairings: [[u32; 2]; 2], node: u32) -> u32 {
+    let (none, mut second) = (c.constant(false), c.constant(true));
+    let (mut first, mut either) = (node, second);
+    for start in (1..n).rev().map(|digit| 1 + 4 * digit) {
+        let ends = [first, second, either];
+        either = pairs(c, start, pairings, ends);
+        second = pairs(c, start, pairings, [none, second, second]);
+        first = pairs(c, start, pairings, [first, none, first]);
+    }
+    pairs(c, 1, pairings, [first, second, either])
+}
+
+/// A decision over digits of four variables. A term i of the low side has a pair of the first pairing for each of n digits, a term j of
+/// the high side one of the second, and their join holds just one pair of the third for each, as it were i xor j; the sides have these
+/// 2^n terms of the third pairing in common. So each join has just one least join inside, along each term another one. The other terms
+/// stand once with each of some more variables. The decision stands 2^levels times below a tree of decisions.
+pub fn xor(n: u32, more: u32, levels: u32) -> Family {
+    let free = 1 + 4 * n + more;
+    let mut c = Circuit::new(free + levels);
+    let clause = if more == 0 { c.constant(true) } else { c.at_least(1, &range(1 + 4 * n, more)) };
+    let low = digits(&mut c, n, [PAIRINGS[0], PAIRINGS[2]], clause);
+    let high = digits(&mut c, n, [PAIRINGS[1], PAIRINGS[2]], clause);
+    copies(&mut c, low, high, free);
+    named(format!("{} times xor of {n} digits, {more} more variables", 1 << levels), c)
 }
 
 /// The families of the table.
@@ -315,6 +393,15 @@ pub fn worst() -> Vec<Family> {
         more_on_one_side(6, 13, true),
         alternating(4, 10, 4, 11, 0),
         alternating(4, 12, 5, 13, 0),
-        alternating(4, 12, 5, 13, 4),
+        classes(4, 10, 4, 11, 0),
+        classes(4, 12, 5, 13, 0),
+        xor(6, 0, 0),
+        xor(7, 4, 0),
+        xor(9, 3, 0),
+        xor(8, 3, 4),
+        xor(7, 4, 7),
+        slow(alternating(4, 12, 5, 13, 4)),
+        slow(alternating(4, 12, 5, 13, 7)),
+        slow(classes(4, 12, 5, 13, 7)),
     ]
 }

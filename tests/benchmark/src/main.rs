@@ -1,157 +1,125 @@
-//! The engine against the same algorithm by hand and against a truth table, family by family: `cargo run --release`.
-//! `cargo run --release -- worst` runs the worst circuits found. Both listings clear the lent buffers first, and that is in their
-//! times.
+//! The engine beside the same algorithm by hand, the algorithm before, decision diagrams, and a truth table, family by family:
+//! `cargo run --release`. With `-- worst` the worst circuits found; the algorithm before does not run on those marked slow, and with
+//! `-- worst by-hand` the engine does not either. With `-- search` a search for bad circuits. A listing of every node clears the lent
+//! buffers first, and that is in its time.
+mod buffers;
 mod by_hand;
+mod by_hand_before;
+mod check;
 mod circuit;
+mod columns;
+mod diagrams;
+mod factors;
 mod families;
+mod listing;
+mod measure;
+mod part;
+mod random;
+mod search;
+mod sides;
+mod steps;
+mod terms;
 mod timing;
 mod truth_table;
 
-use by_hand::Listed;
 use families::Family;
-use quelbrift::{Table, Term};
-use std::time::{Duration, Instant};
-use timing::{least, shown};
+use measure::{measure, steps, stop, Cell, Measured, Peer};
+use std::time::Duration;
+use timing::Runs;
 
 /// The largest capacity, and the one of most lines.
 const CAPACITY: u32 = 4096;
 /// Circuits with fewer prime implicants are listed with just the needed capacity too.
 const FEW: usize = 128;
-/// More variables than this are too many for a truth table.
-const TABLE_VARIABLES: u32 = 16;
+const MINUTE: Duration = Duration::from_secs(60);
 
-/// A listing by the engine, or by hand: table, capacity, positive masks, negative masks, counts.
-type List<'a> = &'a dyn Fn(Table, u32, &mut [u64], &mut [u64], &mut [u32]) -> Listed;
-
-/// The lent buffers of a listing.
-#[derive(PartialEq)]
-struct Buffers {
-    positives: Vec<u64>,
-    negatives: Vec<u64>,
-    counts: Vec<u32>,
+/// The columns of times, those of the last node only with a star.
+fn heads() -> String {
+    let heads = ["engine", "by hand", "ratio", "before", "diagrams*", "diagrams", "table*"];
+    format!("{:>8} {:>8} {:>5} {:>8} {:>9} {:>8} {:>8}", heads[0], heads[1], heads[2], heads[3], heads[4], heads[5], heads[6])
 }
 
-impl Buffers {
-    fn new(table: Table, capacity: u32) -> Self {
-        let (n, total) = (table.nodes as usize, (table.nodes * capacity) as usize);
-        Buffers { positives: vec![0; total], negatives: vec![0; total], counts: vec![0; n] }
-    }
-
-    /// The number of terms of the last node.
-    fn rows(&self) -> usize {
-        self.counts[self.counts.len() - 1] as usize
-    }
-
-    /// The terms of the last node.
-    fn last(&self, capacity: u32) -> Vec<Term> {
-        let start = (self.counts.len() - 1) * capacity as usize;
-        let end = start + self.rows();
-        let pairs = self.positives[start..end].iter().zip(&self.negatives[start..end]);
-        pairs.map(|(&positive, &negative)| Term { positive, negative }).collect()
-    }
+fn cells(measured: &Measured) -> String {
+    let Measured { engine, by_hand, before, last_diagram, diagrams, truth_table, .. } = measured;
+    let ratio = engine.ratio(*by_hand).map_or(String::new(), |ratio| format!("{ratio:.2}"));
+    let [engine, hand, before, last, every, table] =
+        [engine, by_hand, before, last_diagram, diagrams, truth_table].map(|cell| cell.shown());
+    format!("{engine:>8} {hand:>8} {ratio:>5} {before:>8} {last:>9} {every:>8} {table:>8}")
 }
 
-fn stop(message: &str) -> ! {
-    eprintln!("stopped: {message}");
-    std::process::exit(1)
+/// A line of the table.
+fn line(family: &Family, capacity: u32) -> Measured {
+    let measured = measure(family, &[Peer::Engine, Peer::ByHand, Peer::Before, Peer::Diagrams], capacity, Runs::Several);
+    let (table, rows) = (family.circuit.table(), measured.rows);
+    println!("{:<38} {:>2} {:>5} {rows:>5} {capacity:>8} {}", family.name, table.variables, table.nodes, cells(&measured));
+    measured
 }
 
-/// Lists into the buffers, or stops.
-fn run(name: &str, list: List, table: Table, capacity: u32, buffers: &mut Buffers) {
-    let Buffers { positives, negatives, counts } = buffers;
-    if let Err(refusal) = list(table, capacity, positives, negatives, counts) {
-        stop(&format!("{name}: {refusal:?}"));
-    }
+/// The geometric means of the engine's time beside that by hand and that of the diagrams.
+fn print_means(name: &str, lines: &[Measured]) {
+    let mean = |ratios: Vec<f64>| (ratios.iter().map(|ratio| ratio.ln()).sum::<f64>() / ratios.len() as f64).exp();
+    let by_hand = mean(lines.iter().filter_map(|line| line.engine.ratio(line.by_hand)).collect());
+    let diagrams = mean(lines.iter().filter_map(|line| line.engine.ratio(line.diagrams)).collect());
+    println!("geometric means, {name}: engine / by hand {by_hand:.2}, engine / diagrams {diagrams:.2}");
 }
 
-/// The least times of some listings, and what they list, which is the same at every node.
-fn timed(name: &str, lists: &[List], table: Table, capacity: u32) -> (Vec<Duration>, Buffers) {
-    let mut buffers: Vec<Buffers> = lists.iter().map(|_| Buffers::new(table, capacity)).collect();
-    let times = least(lists.len(), |i| run(name, lists[i], table, capacity, &mut buffers[i]));
-    if buffers.iter().any(|other| *other != buffers[0]) {
-        stop(&format!("{name}: the listings differ"));
-    }
-    (times, buffers.swap_remove(0))
-}
-
-/// The least time of the truth table, whose terms are those that the engine lists; none for too many variables.
-fn timed_table(name: &str, table: Table, listed: &[Term]) -> Option<Duration> {
-    if table.variables > TABLE_VARIABLES {
-        return None;
-    }
-    let mut terms = Vec::new();
-    let times = least(1, |_| terms = truth_table::list(table));
-    if terms != listed {
-        stop(&format!("{name}: engine and truth table differ"));
-    }
-    Some(times[0])
-}
-
-/// A line of the table; returns the number of prime implicants.
-fn line(family: &Family, capacity: u32) -> usize {
-    let (name, table) = (&family.name, family.circuit.table());
-    let (times, listed) = timed(name, &[&quelbrift::list, &by_hand::list], table, capacity);
-    let [engine, hand] = [times[0].as_secs_f64(), times[1].as_secs_f64()];
-    let (truth, factor) = match timed_table(name, table, &listed.last(capacity)) {
-        Some(time) => (shown(time), format!("{:.2}", time.as_secs_f64() / engine)),
-        None => ("not run".into(), String::new()),
-    };
-    println!(
-        "{name:<47} {:>2} {:>5} {:>5} {capacity:>8} {:>8} {:>8} {:>6.2} {truth:>11} {factor:>12}",
-        table.variables,
-        table.nodes,
-        listed.rows(),
-        shown(times[0]),
-        shown(times[1]),
-        engine / hand,
-    );
-    listed.rows()
-}
-
-/// The engine, the same by hand, and the truth table.
+/// The families of the table.
 fn usual() {
-    println!(
-        "{:<47} {:>2} {:>5} {:>5} {:>8} {:>8} {:>8} {:>6} {:>11} {:>12}",
-        "family", "N", "nodes", "rows", "capacity", "engine", "by hand", "ratio", "truth table", "table/engine"
-    );
+    println!("{:<38} {:>2} {:>5} {:>5} {:>8} {}", "family", "N", "nodes", "rows", "capacity", heads());
+    let (mut lines, mut needed) = (Vec::new(), Vec::new());
     for family in families::usual() {
-        let rows = line(&family, CAPACITY);
+        lines.push(line(&family, CAPACITY));
+        let rows = lines[lines.len() - 1].rows;
         if rows < FEW {
-            line(&family, rows as u32);
+            needed.push(line(&family, rows as u32));
         }
     }
+    println!("* the last node only; all others list every node");
+    print_means(&format!("capacity {CAPACITY}"), &lines);
+    print_means("just the needed capacity", &needed);
 }
 
-/// A worst circuit, once: the engine, and the same by hand.
-fn worst_line(family: &Family) {
-    let (name, table) = (&family.name, family.circuit.table());
-    let once = |list: List| {
-        let mut listed = Buffers::new(table, CAPACITY);
-        let start = Instant::now();
-        run(name, list, table, CAPACITY, &mut listed);
-        (start.elapsed(), listed)
-    };
-    let (engine, listed) = once(&quelbrift::list);
-    let (hand, by_hand) = once(&by_hand::list);
-    if listed != by_hand {
-        stop(&format!("{name}: the listings differ"));
-    }
-    let [n, nodes, rows] = [table.variables, table.nodes, listed.rows() as u32];
-    println!("{name:<50} {n:>2} {nodes:>5} {rows:>5} {:>9} {:>9}", shown(engine), shown(hand));
+/// A line of the table of worst circuits: each is run once.
+fn worst_line(family: &Family, peers: &[Peer]) -> Measured {
+    let measured = measure(family, peers, CAPACITY, Runs::Once);
+    let ([n, nodes], rows) = ([family.circuit.variables, family.circuit.nodes() as u32], measured.rows);
+    println!("{:<51} {n:>2} {nodes:>5} {rows:>5} {:>11} {}", family.name, steps(family, CAPACITY), cells(&measured));
+    measured
+}
+
+fn print_worst_heads() {
+    println!("{:<51} {:>2} {:>5} {:>5} {:>11} {}", "worst circuit", "N", "nodes", "rows", "steps", heads());
 }
 
 /// The worst circuits found.
-fn worst() {
-    println!("{:<50} {:>2} {:>5} {:>5} {:>9} {:>9}", "worst circuit", "N", "nodes", "rows", "engine", "by hand");
+fn worst(by_hand: bool) {
+    print_worst_heads();
     for family in families::worst() {
-        worst_line(&family);
+        let peers: &[Peer] = match (family.slow, by_hand) {
+            (false, _) => &[Peer::ByHand, Peer::Engine, Peer::Before, Peer::Diagrams],
+            (true, false) => &[Peer::ByHand, Peer::Engine, Peer::Diagrams],
+            (true, true) => &[Peer::ByHand, Peer::Diagrams],
+        };
+        worst_line(&family, peers);
     }
 }
 
+/// The worst circuits of a search: one decision, and a table of many of it, which the engine lists unless that would take it a minute.
+fn searched() {
+    let [one, many] = search::search(CAPACITY as usize);
+    print_worst_heads();
+    let measured = worst_line(&one, &[Peer::ByHand, Peer::Engine, Peer::Before, Peer::Diagrams]);
+    let short = matches!(measured.engine, Cell::Time(time) if time * (1 << search::LEVELS) < MINUTE);
+    worst_line(&many, if short { &[Peer::ByHand, Peer::Engine, Peer::Diagrams] } else { &[Peer::ByHand, Peer::Diagrams] });
+}
+
 fn main() {
-    match std::env::args().nth(1).as_deref() {
-        None => usual(),
-        Some("worst") => worst(),
-        Some(other) => stop(&format!("{other} is not worst")),
+    let words: Vec<String> = std::env::args().skip(1).collect();
+    match words.iter().map(String::as_str).collect::<Vec<_>>()[..] {
+        [] => usual(),
+        ["worst"] => worst(false),
+        ["worst", "by-hand"] => worst(true),
+        ["search"] => searched(),
+        _ => stop("the commands are none, worst, worst by-hand, and search"),
     }
 }

@@ -1,5 +1,5 @@
 //! Quine-McCluskey by truth table: all minterms of the circuit, merged level by level.
-use crate::by_hand::key;
+use crate::terms::key;
 use quelbrift::{Table, Term};
 
 /// An implicant: the free variables in the high half, the values of the others in the low half.

@@ -7,7 +7,7 @@
  * buffer is a pointer and then its length in elements; it may always be longer than needed. The caller must see to three things. No
  * pointer is NULL, not even where the length is 0. It points to at least that many elements. A buffer that is written overlaps no
  * other. No function keeps a pointer or state, and calls from several threads at once do not disturb one another. A call needs at
- * most 256 KiB of stack. Bytes and nodes are counted from 0.
+ * most 512 KiB of stack. Bytes and nodes are counted from 0.
  *
  * Vocabulary. A fact of the trade is a variable here, a stow an assignment, a row a term, a clearance a prime implicant, the room a
  * capacity. An assignment is a mask: bit i is set where variable i is true (the fact is yes). A term is two masks: positive (marked
@@ -199,9 +199,9 @@ quelbrift_answer quelbrift_reduce(const uint32_t *words, size_t words_length, ui
  * Refuses: 21 to 25, then 41; all buffers are unchanged then. Then 42, exactly where the circuit has more clearances than the
  * capacity; the first nodes * capacity entries of both row buffers and the first `nodes` counts are 0 then, later ones unchanged. Start
  * with a small capacity, and after 42 try a larger one, up to 4,096.
- * Time: the circuits measured (docs/PERFORMANCE.md) take milliseconds. The worst time grows with the third power of the capacity at each
- * pick: at capacity 4,096 some 40 s a pick, so hours a table. A table made to be slow took 342 s. A call cannot be interrupted; a
- * smaller capacity bounds it.
+ * Time: the circuits measured (docs/PERFORMANCE.md) take milliseconds, and the worst tables made to be slow took seconds. The worst time
+ * grows with the third power of the capacity at each pick, 64 entries at a time. A call cannot be interrupted; a smaller capacity
+ * bounds it.
  */
 quelbrift_answer quelbrift_list(const uint32_t *words, size_t words_length, uint32_t variables, uint32_t nodes, uint32_t capacity,
                                 uint64_t *positives, size_t positives_length, uint64_t *negatives, size_t negatives_length,

@@ -22,25 +22,13 @@ use Rattle.terms.proofs.Listed.{primes-lists, sort-primes}
 use Rattle.terms.proofs.Terms.{Inside, extend-there, extend-only, empty-has, by-variable, without-inside, agrees-inside, put-agrees}
 use Rattle.terms.proofs.Terms.{own-agrees}
 use Rattle.circuits.specs.Check.{allDisjoint}
+use Rattle.circuits.specs.Terms.{joinAll, nodeTerms}
 use Rattle.circuits.specs.Function.{ofNode, signed, nodeValue, function, support}
 use Rattle.circuits.proofs.Accepted.{variables-wide, Accepted}
 use Rattle.circuits.proofs.BottomUp.{Local, from-children, branch-mem}
 use Rattle.circuits.proofs.Nodes.{sides, allOf, function-is, decision-free, conjunction-below, conjunction-disjoint, all-apart}
 use Rattle.circuits.proofs.Nodes.{rest-disjoint, true-prime, signed-not, literal-prime}
 use Rattle.circuits.proofs.Tables.{Fits, fits, children-below, node-induction}
-
--- each term of the first child joined with each of the others
-abbrev pub joinAll : (ℕ → List Term) → List ℕ → List Term
-joinAll v [] = empty ∷ []
-joinAll v (c ∷ cs) = joins (v c) (joinAll v cs)
-
--- the terms of a node from its children's
-abbrev pub nodeTerms : Node → (ℕ → List Term) → List Term
-nodeTerms (constant b) v = cond b (empty ∷ []) []
-nodeTerms (literal b x) v = extend empty x b ∷ []
-nodeTerms (decision x a b) v = sort before (decisionTerms x (v a) (v b))
-nodeTerms (conjunction cs) v = sort before (joinAll v cs)
-nodeTerms unknown v = []
 
 unfoldable pub termsAt : List ℕ → ℕ → List Term
 termsAt w i = ofNode [] nodeTerms w i
@@ -131,7 +119,7 @@ module _ {N n : ℕ} {w : List ℕ} (acc : Accepted N n w) where
       (all-lists cs (rest-disjoint acc c cs d) (λ e m. l e (List·Memᴰ·tail m))) (all-apart acc c cs d l)
 
   -- one node, from its children's prime implicants
-  node-terms : (i : ℕ) → i < n → (y : Node) → nodeAt w i ≡ y → Fits N i y → nodeTerms y rows ≡ rows i
+  pub node-terms : (i : ℕ) → i < n → (y : Node) → nodeAt w i ≡ y → Fits N i y → nodeTerms y rows ≡ rows i
   node-terms i l y e f = build y e f ∙ ap (primes N) (sym (function-is acc i y l e))
     where
       build : (y : Node) → nodeAt w i ≡ y → Fits N i y → nodeTerms y rows ≡ primes N (λ s. nodeValue s y (λ c. function w c s))

@@ -1,2 +1,3 @@
 pub mod Function
 pub mod Check
+pub mod Terms

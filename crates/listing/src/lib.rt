@@ -74,19 +74,23 @@ fn fill_all(
     let mut an = [0u64; MAX_CAPACITY as usize];
     let mut bp = [0u64; MAX_CAPACITY as usize];
     let mut bn = [0u64; MAX_CAPACITY as usize];
+    let mut kept = [0u64; 8192];
+    let mut hints = [0u16; 8192];
+    let mut columns = [0u64; 10240];
     let mut i = 0;
     while i < n {
-        let Kept::Count(c) = nodes::fill_node(
+        let part = nodes::part_of(words, counts, i, capacity);
+        let Kept::Count(c) = nodes::fill_part(
             positives,
             negatives,
             &mut ap,
             &mut an,
             &mut bp,
             &mut bn,
-            counts,
-            words,
-            i,
-            capacity,
+            &mut kept,
+            &mut hints,
+            &mut columns,
+            part,
         ) else {
             return false;
         };

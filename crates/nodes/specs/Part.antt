@@ -4,29 +4,33 @@ use mathlib.Core.Path.{_≡_}
 use mathlib.Core.Bool.{Bool, true, false, cond}
 use mathlib.Core.List.{List, [], _∷_, _++_}
 use lib.ListN.{length, take, drop, getD}
-use Rattle.table.specs.Gate.{childAt}
+use Rattle.table.specs.Gate.{childAt, gateNode}
 use Rattle.table.specs.Node.{Node, constant, literal, decision, conjunction, unknown}
+use Rattle.terms.specs.Joins.{joins, decisionTerms}
+use Rattle.terms.specs.Lists.{sort}
+use Rattle.terms.specs.Order.{before}
 use Rattle.terms.specs.Term.{empty, extend, termsOf}
 use Rattle.terms.specs.declared.Term.{Term}
 use Rattle.insertion.specs.Filled.{masksOf, laid, keptOf}
 use Rattle.insertion.specs.declared.Kept.{Kept}
-use Rattle.builder.specs.Made.{insertAll, madeJoins, madeDecision}
-
--- a variable that is named has a bit
-abbrev pub Named : Node → Type 0
-Named (constant b) = Unit {0}
-Named (literal b x) = x < 64
-Named (decision x a b) = x < 64
-Named (conjunction cs) = Unit {0}
-Named unknown = Unit {0}
+use Rattle.settling.specs.Sides.{SidesAt, DecidedAt}
+use Rattle.nodes.specs.declared.Part.{Part}
 
 -- what is made of a node from the terms l and k of its children
 abbrev pub nodeMade : Node → List Term → List Term → List Term
 nodeMade (constant b) l k = cond b (empty ∷ []) []
 nodeMade (literal b x) l k = extend empty x b ∷ []
-nodeMade (decision x a b) l k = insertAll (madeDecision x l k) []
-nodeMade (conjunction cs) l k = insertAll (madeJoins false k l) []
+nodeMade (decision x a b) l k = sort before (decisionTerms x l k)
+nodeMade (conjunction cs) l k = sort before (joins l (joins k (empty ∷ [])))
 nodeMade unknown l k = []
+
+-- what is taken for granted of its children's terms: they are prime implicants in order, a decision's variable is in none of them
+abbrev pub Given : Node → List ℕ → List ℕ → List ℕ → List ℕ → Type 0
+Given (constant b) ap an bp bn = Unit {0}
+Given (literal b x) ap an bp bn = x < 64
+Given (decision x a b) ap an bp bn = DecidedAt x ap an bp bn
+Given (conjunction cs) ap an bp bn = SidesAt ap an bp bn
+Given unknown ap an bp bn = Unit {0}
 
 -- the count terms that stand from `at` on
 abbrev pub termsFrom : (Bool → List ℕ) → ℕ → ℕ → List Term
@@ -41,14 +45,12 @@ pub record PartFilled (l : List Term) (at capacity : ℕ) (s s′ : Bool → Lis
   pub answer : k ≡ keptOf capacity l
   pub masks : length l ≤ capacity → (b : Bool) → s′ b ≡ laidAt at capacity (masksOf b l) (s b)
 
--- what is made of a node from the counts and the terms of the nodes below it
-abbrev pub nodeTermsFrom : Node → ℕ → List ℕ → (Bool → List ℕ) → List Term
-nodeTermsFrom y capacity counts s =
-    nodeMade y (termsFrom s (childAt y 0 * capacity) (getD counts (childAt y 0) 0))
-    (termsFrom s (childAt y 1 * capacity) (getD counts (childAt y 1) 0))
-
--- node i can be made
-pub record Ready (i : ℕ) (y : Node) : Type 0 where
-  pub named : Named y
-  pub left : childAt y 0 ≤ i
-  pub right : childAt y 1 ≤ i
+-- the part of node i, and where its children's terms stand
+pub record IsPart (y : Node) (counts : List ℕ) (i capacity : ℕ) (p : Part) : Type 0 where
+  pub gate : gateNode (p .gate) ≡ y
+  pub at : p .at ≡ i * capacity
+  pub capacity-is : p .capacity ≡ capacity
+  pub low-from : p .low .from ≡ childAt y 0 * capacity
+  pub low-count : p .low .count ≡ getD counts (childAt y 0) 0
+  pub high-from : p .high .from ≡ childAt y 1 * capacity
+  pub high-count : p .high .count ≡ getD counts (childAt y 1) 0

@@ -2,14 +2,14 @@
 ghost use mathlib.Core.Path.{_≡_};
 ghost use mathlib.Core.Bool.{cond};
 ghost use mathlib.Core.List.{[], _∷_};
-ghost use Prim.Native.Nat.{ℕ, _+_, _*_, _≤_, _<_};
+ghost use Prim.Native.Nat.{_+_, _*_, _≤_, _<_};
 ghost use lib.ListN.{length, take, drop, getD};
-ghost use Rattle.table.specs.Gate.{gateNode};
+ghost use Rattle.table.specs.Gate.{gateNode, childAt};
 ghost use Rattle.table.specs.Node.{nodeAt, nodeWords, maxNodes};
 ghost use Rattle.terms.specs.Term.{empty, extend, termsOf};
 ghost use Rattle.lists.specs.Capacity.{maxCapacity};
 ghost use Rattle.insertion.specs.Filled.{bySign, Filled};
-ghost use Rattle.nodes.specs.Part.{Named, nodeMade, termsFrom, PartFilled, nodeTermsFrom, Ready};
+ghost use Rattle.nodes.specs.Part.{nodeMade, Given, termsFrom, PartFilled, IsPart};
 use insertion::Kept;
 use table::Gate;
 use terms::Term;
@@ -37,18 +37,23 @@ fn literal(positives: &mut [u64], negatives: &mut [u64], sign: bool, x: u32) -> 
     insertion::insert(positives, negatives, 0, terms::extend(empty, x, sign))
 }
 
-// Makes the terms of a node in the two slices, from the terms a and b of its children.
+// Makes the terms of a node in the two slices, from the terms a and b of its children; kept, hints and columns are scratch.
 fn make(
     positives: &mut [u64],
     negatives: &mut [u64],
-    gate: Gate,
+    kept: &mut [u64],
+    hints: &mut [u16],
+    columns: &mut [u64],
     ap: &[u64],
     an: &[u64],
     bp: &[u64],
     bn: &[u64],
+    gate: Gate,
 ) -> Kept
-    requires { ⌜ Named (gateNode gate) × (length (now negatives) ≡ length (now positives)) ⌝ }
-    requires { ⌜ (length (now an) ≡ length (now ap)) × (length (now bn) ≡ length (now bp)) ⌝ }
+    requires { ⌜ Given (gateNode gate) (now ap) (now an) (now bp) (now bn) ⌝ }
+    requires { ⌜ (length (now negatives) ≡ length (now positives)) × (length (now kept) ≡ 2 * maxCapacity)
+        × (length (now hints) ≡ 2 * maxCapacity) × (length (now columns) ≡ 10240)
+        × (length (now an) ≡ length (now ap)) × (length (now bn) ≡ length (now bp)) ⌝ }
     ensures { λ r. ⌜ Filled
         (nodeMade (gateNode gate) (termsOf (now (ap .entry)) (now (an .entry))) (termsOf (now (bp .entry)) (now (bn .entry))))
         (bySign (now (positives .entry)) (now (negatives .entry)))
@@ -57,8 +62,19 @@ fn make(
     match gate {
         Gate::Constant(value) => constant(positives, negatives, value),
         Gate::Literal(sign, x) => literal(positives, negatives, sign, x),
-        Gate::Decision(x, _, _) => builder::decision(positives, negatives, x, ap, an, bp, bn),
-        Gate::Conjunction(_, _) => builder::conjunction(positives, negatives, ap, an, bp, bn),
+        Gate::Decision(x, _, _) => decisions::decision(
+            positives,
+            negatives,
+            kept,
+            hints,
+            columns,
+            ap,
+            an,
+            bp,
+            bn,
+            x,
+        ),
+        Gate::Conjunction(_, _) => joins::conjunction(positives, negatives, ap, an, bp, bn),
         Gate::Unknown => Kept::Count(0),
     }
 }
@@ -75,45 +91,73 @@ fn copy(to: &mut [u64], from: &[u64], at: usize, count: usize)
     }
 }
 
-// Makes the terms of a node in the part of capacity entries from `at` on; its children's terms stand from a and from b on.
-// They are copied to the fronts of ap, an, bp and bn: scratch, and what it holds before and after is left free.
-fn fill_part(
+// Terms of a node in the buffers: the first place, and how many.
+pub struct Terms {
+    pub from: usize,
+    pub count: usize,
+}
+
+// A node's part of the buffers, its gate, and where its children's terms stand.
+pub struct Part {
+    pub gate: Gate,
+    pub at: usize,
+    pub capacity: usize,
+    pub low: Terms,
+    pub high: Terms,
+}
+
+// Makes the terms of a node in its part. Its children's terms are copied to the fronts of ap, an, bp and bn; these, kept, hints and columns are
+// scratch, and what it holds before and after is left free.
+pub fn fill_part(
     positives: &mut [u64],
     negatives: &mut [u64],
     ap: &mut [u64],
     an: &mut [u64],
     bp: &mut [u64],
     bn: &mut [u64],
-    capacity: usize,
-    at: usize,
-    gate: Gate,
-    a: usize,
-    ca: usize,
-    b: usize,
-    cb: usize,
+    kept: &mut [u64],
+    hints: &mut [u16],
+    columns: &mut [u64],
+    part: Part,
 ) -> Kept
-    requires { ⌜ Named (gateNode gate) × (capacity ≤ maxCapacity) × (ca ≤ capacity) × (cb ≤ capacity) ⌝ }
-    requires { ⌜ (a + capacity ≤ length (now positives)) × (b + capacity ≤ length (now positives))
-        × (at + capacity ≤ length (now positives)) × (length (now negatives) ≡ length (now positives)) ⌝ }
-    requires { ⌜ (length (now ap) ≡ maxCapacity) × (length (now an) ≡ maxCapacity) × (length (now bp) ≡ maxCapacity) × (length (now bn) ≡ maxCapacity) ⌝ }
-    ensures { λ r. ⌜ PartFilled (nodeMade (gateNode gate) (termsFrom (bySign (now (positives .entry)) (now (negatives .entry))) a ca)
-        (termsFrom (bySign (now (positives .entry)) (now (negatives .entry))) b cb)) at capacity
+    requires { ⌜ Given (gateNode (part .gate)) (take (part .low .count) (drop (part .low .from) (now positives)))
+        (take (part .low .count) (drop (part .low .from) (now negatives)))
+        (take (part .high .count) (drop (part .high .from) (now positives)))
+        (take (part .high .count) (drop (part .high .from) (now negatives))) ⌝ }
+    requires { ⌜ (part .capacity ≤ maxCapacity) × (part .low .count ≤ part .capacity) × (part .high .count ≤ part .capacity)
+        × (part .low .from + part .capacity ≤ length (now positives)) × (part .high .from + part .capacity ≤ length (now positives))
+        × (part .at + part .capacity ≤ length (now positives)) × (length (now negatives) ≡ length (now positives)) ⌝ }
+    requires { ⌜ (length (now ap) ≡ maxCapacity) × (length (now an) ≡ maxCapacity) × (length (now bp) ≡ maxCapacity)
+        × (length (now bn) ≡ maxCapacity) × (length (now kept) ≡ 2 * maxCapacity) × (length (now hints) ≡ 2 * maxCapacity)
+        × (length (now columns) ≡ 10240) ⌝ }
+    ensures { λ r. ⌜ PartFilled
+        (nodeMade (gateNode (part .gate)) (termsFrom (bySign (now (positives .entry)) (now (negatives .entry))) (part .low .from) (part .low .count))
+        (termsFrom (bySign (now (positives .entry)) (now (negatives .entry))) (part .high .from) (part .high .count))) (part .at) (part .capacity)
         (bySign (now (positives .entry)) (now (negatives .entry)))
         (bySign (now (positives .exit)) (now (negatives .exit))) r ⌝ }
 {
-    copy(ap, positives, a, ca);
-    copy(an, negatives, a, ca);
-    copy(bp, positives, b, cb);
-    copy(bn, negatives, b, cb);
-    let end = at + capacity;
+    let low = part.low;
+    let high = part.high;
+    let ca = low.count;
+    let cb = high.count;
+    let at = part.at;
+    let end = at + part.capacity;
+    let gate = part.gate;
+    copy(ap, positives, low.from, ca);
+    copy(an, negatives, low.from, ca);
+    copy(bp, positives, high.from, cb);
+    copy(bn, negatives, high.from, cb);
     make(
         &mut positives[at..end],
         &mut negatives[at..end],
-        gate,
+        kept,
+        hints,
+        columns,
         &ap[..ca],
         &an[..ca],
         &bp[..cb],
         &bn[..cb],
+        gate,
     )
 }
 
@@ -125,43 +169,34 @@ fn count_at(counts: &[u32], k: usize) -> usize
     counts[k] as usize
 }
 
-// Makes the terms of node i in its part of the buffers; ap, an, bp and bn are scratch for the terms of its children.
-pub fn fill_node(
-    positives: &mut [u64],
-    negatives: &mut [u64],
-    ap: &mut [u64],
-    an: &mut [u64],
-    bp: &mut [u64],
-    bn: &mut [u64],
-    counts: &[u32],
-    words: &[u32],
-    i: usize,
-    capacity: usize,
-) -> Kept
+// The terms of a child, in buffers of so many entries a node.
+fn terms_of(counts: &[u32], k: usize, capacity: usize) -> Terms
+    requires { ⌜ (k < maxNodes) × (capacity ≤ maxCapacity) × (k < length (now counts)) ⌝ }
+    ensures { λ r. ⌜ (r .from ≡ k * capacity) × (r .count ≡ getD (now (counts .entry)) k 0) ⌝ }
+{
+    Terms {
+        from: k * capacity,
+        count: count_at(counts, k),
+    }
+}
+
+// The part of node i.
+pub fn part_of(words: &[u32], counts: &[u32], i: usize, capacity: usize) -> Part
     requires { ⌜ (i < maxNodes) × (capacity ≤ maxCapacity) × (nodeWords * i + nodeWords ≤ length (now words)) × (i < length (now counts)) ⌝ }
-    requires { ⌜ Ready i (nodeAt (now words) i) × ((k : ℕ) → k ≤ i → getD (now counts) k 0 ≤ capacity) ⌝ }
-    requires { ⌜ (i * capacity + capacity ≤ length (now positives)) × (length (now negatives) ≡ length (now positives)) ⌝ }
-    requires { ⌜ (length (now ap) ≡ maxCapacity) × (length (now an) ≡ maxCapacity) × (length (now bp) ≡ maxCapacity) × (length (now bn) ≡ maxCapacity) ⌝ }
-    ensures { λ r. ⌜ PartFilled (nodeTermsFrom (nodeAt (now (words .entry)) i) capacity (now (counts .entry))
-        (bySign (now (positives .entry)) (now (negatives .entry)))) (i * capacity) capacity
-        (bySign (now (positives .entry)) (now (negatives .entry)))
-        (bySign (now (positives .exit)) (now (negatives .exit))) r ⌝ }
+    requires { ⌜ (childAt (nodeAt (now words) i) 0 ≤ i) × (childAt (nodeAt (now words) i) 1 ≤ i) ⌝ }
+    ensures { λ r. ⌜ IsPart (nodeAt (now (words .entry)) i) (now (counts .entry)) i capacity r ⌝ }
 {
     let gate = table::gate_at(words, i);
     let below = table::children_of(gate);
-    fill_part(
-        positives,
-        negatives,
-        ap,
-        an,
-        bp,
-        bn,
-        capacity,
-        i * capacity,
+    let a = below.left;
+    let b = below.right;
+    let low = terms_of(counts, a, capacity);
+    let high = terms_of(counts, b, capacity);
+    Part {
         gate,
-        below.left * capacity,
-        count_at(counts, below.left),
-        below.right * capacity,
-        count_at(counts, below.right),
-    )
+        at: i * capacity,
+        capacity,
+        low,
+        high,
+    }
 }

@@ -13,7 +13,7 @@ use crate::tally::Tally;
 use crate::texts;
 
 /// What the header states, and what the comparison itself needs.
-const STATED_STACK: usize = 256 * 1024;
+const STATED_STACK: usize = 512 * 1024;
 const OWN_STACK: usize = 32 * 1024;
 
 /// The largest work of each kind; how many comparisons were made.

@@ -4,11 +4,12 @@ use Prim.Native.Nat.{ℕ, _-_, _*_, _<_, _≤_}
 use mathlib.Core.Path.{_≡_, sym, ap, subst, _∙_}
 use mathlib.Core.Bool.{Bool, true, false}
 use mathlib.Core.List.{List}
-use native.Mathlib.Nat.{lt-of-lt-of-le}
+use native.Mathlib.Nat.{le-refl, lt-of-lt-of-le}
 use native.Mathlib.Omega.{arith}
 use native.Mathlib.Numerals.{add-one}
-use lib.ListN.{length, getD, set, length-replicate}
+use lib.ListN.{length, set, length-replicate}
 use borrow.Author.Needs.{needs}
+use Rattle.table.specs.Gate.{childAt}
 use Rattle.table.specs.Node.{nodeAt}
 use Rattle.terms.specs.declared.Term.{Term}
 use Rattle.circuits.proofs.Accepted.{accepted-e, Accepted}
@@ -17,22 +18,24 @@ use Rattle.insertion.specs.Filled.{bySign}
 use Rattle.insertion.specs.declared.Kept.{Kept}
 use Rattle.insertion.specs.declared.Kept.the-variants.{Count, Full}
 use Rattle.insertion.proofs.Parts.{kept-count, kept-full}
-use Rattle.nodes.specs.Part.{termsFrom, nodeTermsFrom, PartFilled}
-use Rattle.nodes.proofs.Exact.{made-exact, ready}
+use Rattle.nodes.specs.Part.{PartFilled}
+use Rattle.nodes.proofs.Exact.{children-below}
 use Rattle.listing.specs.Listing.{nodePrimes}
 use Rattle.listing.proofs.Bounds.{nodes-some, nodes-le, words-enough}
-use Rattle.listing.proofs.Table.{state-start, state-length, state-counts, state-part, count-le, terms-back, state-more}
+use Rattle.listing.proofs.NodeParts.{child-fits, part-given, part-made}
+use Rattle.listing.proofs.Table.{state-start, state-length, state-counts, count-le, state-more}
 use Rattle.listing.proofs.Table.{tried-full, tried-all, State}
 use Rattle.listing.proofs.fill_all.Statement.{statement}
 use Rattle.listing.proofs.fill_all.Tie as tie
 
 abbrev Inv-loop : tie.InvT-loop
-Inv-loop ps₀ ns₀ cs₀ words variables n capacity ap₀ an₀ bp₀ bn₀ i₀ ps ns cs ap an bp bn i =
+Inv-loop ps₀ ns₀ cs₀ words variables n capacity ap₀ an₀ bp₀ bn₀ kept₀ hints₀ columns₀ i₀ ps ns cs ap an bp bn kept hints columns i =
     (i ≤ n) × State variables words capacity n i (bySign ps ns) cs
-    × ((length ap ≡ 4096) × (length an ≡ 4096) × (length bp ≡ 4096) × (length bn ≡ 4096))
+    × ((length ap ≡ 4096) × (length an ≡ 4096) × (length bp ≡ 4096) × (length bn ≡ 4096) × (length kept ≡ 8192) × (length hints ≡ 8192)
+    × (length columns ≡ 10240))
 
 abbrev μ-loop : tie.MeasureT-loop
-μ-loop ps₀ ns₀ cs₀ words variables n capacity ap₀ an₀ bp₀ bn₀ i₀ ps ns cs ap an bp bn i = n - i
+μ-loop ps₀ ns₀ cs₀ words variables n capacity ap₀ an₀ bp₀ bn₀ kept₀ hints₀ columns₀ i₀ ps ns cs ap an bp bn kept hints columns i = n - i
 
 abbrev Start : Type 0
 Start = tie.Start Inv-loop μ-loop
@@ -41,7 +44,7 @@ abbrev Loop : Type 0
 Loop = tie.At-loop Inv-loop μ-loop
 
 abbrev Called : Type 0
-Called = tie.After-fill-node Inv-loop μ-loop
+Called = tie.After-fill-part Inv-loop μ-loop
 
 abbrev start : Loop → Start
 start a = a .before .before .before .before .before
@@ -51,20 +54,20 @@ abbrev now : Loop → Bool → List ℕ
 now a = bySign (a .loop .positives) (a .loop .negatives)
 
 abbrev then : Called → Bool → List ℕ
-then p = bySign (p .fill-node .last .0) (p .fill-node .last .1 .0)
+then p = bySign (p .fill-part .last .0) (p .fill-part .last .1 .0)
 
 abbrev turn : Called → Loop
-turn p = p .before .before .before .before .before .before .before .before .before
+turn p = p .before .before .before .before .before .before .before .before .before .before .before .before .before
 
 -- the call of a turn that goes on, and of one that ends the loop
 abbrev kept : tie.After-c Inv-loop μ-loop → Called
-kept c = c .before .before .before .before .before .before .before .before .before .before
+kept c = c .before .before .before .before .before .before .before .before .before .before .before .before .before
 
 abbrev full : tie.After-enum-told Inv-loop μ-loop → Called
-full c = c .before .before .before .before .before .before .before .before .before .before
+full c = c .before .before .before .before .before .before .before .before .before .before .before .before .before
 
 tested : (p : Called) → turn p .loop .i < start (turn p) .args .n
-tested p = p .before .before .before .before .before .before .before .before .loop-test .taken
+tested p = p .before .before .before .before .before .before .before .before .before .before .before .before .loop-test .taken
 
 accepts : (s : Start) → let x = s .args in Accepted (x .variables) (x .n) (x .words .now)
 accepts s = let x = s .args in accepted-e (x .variables) (x .n) (x .words .now) (s .pre .0 .0)
@@ -90,23 +93,24 @@ zero-counts : (s : Start) → length (s .args .counts .now) ≡ s .args .n
 zero-counts s = ap length (s .pre .0 .2) ∙ length-replicate (s .args .n) 0
 
 -- the part was filled with the node's prime implicants
-told : (p : Called) (r : Kept) → p .fill-node .result ≡ r
+told : (p : Called) (r : Kept) → p .fill-part .result ≡ r
     → let a = turn p in
     let x = start a .args in
     PartFilled (nodePrimes (x .variables) (x .words .now) (a .loop .i)) (a .loop .i * x .capacity) (x .capacity) (now a) (then p) r
 told p r e =
     let a = turn p in
-    let x = start a .args in
+    let s = start a in
+    let x = s .args in
     let i : ℕ = a .loop .i in
-    let lt : i < x .n = tested p in
-    let made : nodeTermsFrom (nodeAt (x .words .now) i) (x .capacity) (a .loop .counts) (now a)
-    ≡ nodePrimes (x .variables) (x .words .now) i =
-    made-exact (accepts (start a)) i lt
-    (λ c. termsFrom (now a) (c * x .capacity) (getD (a .loop .counts) c 0))
-    (terms-back (a .loop .inv .1) lt) in
-    subst (λ (q : Kept). PartFilled (nodePrimes (x .variables) (x .words .now) i) (i * x .capacity) (x .capacity) (now a) (then p) q) e
-    (subst (λ (l : List Term). PartFilled l (i * x .capacity) (x .capacity) (now a) (then p) (p .fill-node .result)) made
-    (p .fill-node .ensures))
+    let q = p .before .before .before .before .before .before .before .before .before .before in
+    let part = q .part-of .result in
+    let is = q .part-of .ensures in
+    let made = part-made (accepts s) (a .loop .inv .1) (tested p) (s .pre .0 .1) part is in
+    subst (λ (k : Kept). PartFilled (nodePrimes (x .variables) (x .words .now) i) (i * x .capacity) (x .capacity) (now a) (then p) k) e
+    (subst (λ (m : ℕ). PartFilled (nodePrimes (x .variables) (x .words .now) i) m (x .capacity) (now a) (then p) (p .fill-part .result)) (is .at)
+    (subst (λ (m : ℕ). PartFilled (nodePrimes (x .variables) (x .words .now) i) (part .at) m (now a) (then p) (p .fill-part .result))
+    (is .capacity-is)
+    (subst (λ (l : List Term). PartFilled l (part .at) (part .capacity) (now a) (then p) (p .fill-part .result)) made (p .fill-part .ensures))))
 
 -- the count that was answered
 count : (c : tie.After-c Inv-loop μ-loop)
@@ -125,49 +129,75 @@ loop-holds : tie.Need-loop-holds Inv-loop μ-loop
 loop-holds c =
     let s = c .before .before .before .before in
     let x = s .args in
-    let fresh = length-replicate {A = ℕ} 4096 0 in (
+    let fresh = length-replicate {A = ℕ} 4096 0 in
+    let twice = length-replicate {A = ℕ} 8192 0 in (
       search needs,
       state-start (x .variables) (x .words .now) (x .capacity) (x .n) (bySign (x .positives .now) (x .negatives .now)) (x .counts .now)
           (λ b. elim b [ true ↦ s .pre .1 .0 | false ↦ s .pre .1 .1 ]) (s .pre .0 .2),
-      (fresh, fresh, fresh, fresh),
+      (fresh, fresh, fresh, fresh, twice, twice, length-replicate {A = ℕ} 10240 0),
     )
 
-slice-aggregate-fill-node : tie.Need-slice-aggregate-fill-node Inv-loop μ-loop
-slice-aggregate-fill-node c = sym (c .before .before .before .before .loop .inv .2 .0)
-
-slice-aggregate-fill-node-2 : tie.Need-slice-aggregate-fill-node-2 Inv-loop μ-loop
-slice-aggregate-fill-node-2 c = sym (c .before .before .before .before .before .loop .inv .2 .1)
-
-slice-aggregate-fill-node-3 : tie.Need-slice-aggregate-fill-node-3 Inv-loop μ-loop
-slice-aggregate-fill-node-3 c = sym (c .before .before .before .before .before .before .loop .inv .2 .2)
-
-slice-aggregate-fill-node-4 : tie.Need-slice-aggregate-fill-node-4 Inv-loop μ-loop
-slice-aggregate-fill-node-4 c = sym (c .before .before .before .before .before .before .before .loop .inv .2 .3)
-
-fill-node-requires : tie.Need-fill-node-requires Inv-loop μ-loop
-fill-node-requires c κs =
-    let a = c .before .before .before .before .before .before .before .before in
+part-of-requires : tie.Need-part-of-requires Inv-loop μ-loop
+part-of-requires c κs =
+    let w = c .before in
+    let a = w .before in
     let s = start a in
     let x = s .args in
-    let lt : a .loop .i < x .n = c .before .before .before .before .before .before .before .loop-test .taken in
     let acc = accepts s in
+    let lt : a .loop .i < x .n = w .loop-test .taken in
     let most : x .n ≤ 1024 = nodes-le acc in
     let enough : 4 * x .n ≤ length (x .words .now) = words-enough acc in
-    let long : length (a .loop .counts) ≡ x .n = counted a in (
-      (omega arith, s .pre .0 .1, omega arith, omega arith),
+    let long : length (a .loop .counts) ≡ x .n = counted a in
+    ((omega arith, s .pre .0 .1, omega arith, omega arith), children-below acc (a .loop .i) lt)
+
+slice-aggregate-fill-part : tie.Need-slice-aggregate-fill-part Inv-loop μ-loop
+slice-aggregate-fill-part c = sym (c .before .before .before .before .before .before .loop .inv .2 .0)
+
+slice-aggregate-fill-part-2 : tie.Need-slice-aggregate-fill-part-2 Inv-loop μ-loop
+slice-aggregate-fill-part-2 c = sym (c .before .before .before .before .before .before .before .loop .inv .2 .1)
+
+slice-aggregate-fill-part-3 : tie.Need-slice-aggregate-fill-part-3 Inv-loop μ-loop
+slice-aggregate-fill-part-3 c = sym (c .before .before .before .before .before .before .before .before .loop .inv .2 .2)
+
+slice-aggregate-fill-part-4 : tie.Need-slice-aggregate-fill-part-4 Inv-loop μ-loop
+slice-aggregate-fill-part-4 c = sym (c .before .before .before .before .before .before .before .before .before .loop .inv .2 .3)
+
+slice-aggregate-fill-part-5 : tie.Need-slice-aggregate-fill-part-5 Inv-loop μ-loop
+slice-aggregate-fill-part-5 c = sym (c .before .before .before .before .before .before .before .before .before .before .loop .inv .2 .4)
+
+slice-aggregate-fill-part-6 : tie.Need-slice-aggregate-fill-part-6 Inv-loop μ-loop
+slice-aggregate-fill-part-6 c = sym (c .before .before .before .before .before .before .before .before .before .before .before .loop .inv .2 .5)
+
+slice-aggregate-fill-part-7 : tie.Need-slice-aggregate-fill-part-7 Inv-loop μ-loop
+slice-aggregate-fill-part-7 c = sym (c .before .before .before .before .before .before .before .before .before .before .before .before .loop .inv .2 .6)
+
+fill-part-requires : tie.Need-fill-part-requires Inv-loop μ-loop
+fill-part-requires c κs =
+    let q = c .before .before .before .before .before .before .before .before .before in
+    let w = q .before .before in
+    let a = w .before in
+    let s = start a in
+    let x = s .args in
+    let acc = accepts s in
+    let lt : a .loop .i < x .n = w .loop-test .taken in
+    let st = a .loop .inv .1 in
+    let part = q .part-of .result in
+    let is = q .part-of .ensures in
+    let (l, m) = children-below acc (a .loop .i) lt in
+    let ca = count-le st lt (childAt (nodeAt (x .words .now) (a .loop .i)) 0) in
+    let cb = count-le st lt (childAt (nodeAt (x .words .now) (a .loop .i)) 1) in (
+      part-given acc st lt (s .pre .0 .1) part is,
       (
         (
-          ready acc (a .loop .i) lt,
-          λ k _.
-              count-le (a .loop .inv .1) lt k,
+          omega (arith, is .capacity-is, s .pre .0 .1),
+          omega (arith, is .capacity-is, is .low-count, ca),
+          omega (arith, is .capacity-is, is .high-count, cb),
+          omega (arith, is .capacity-is, is .low-from, child-fits acc st lt (s .pre .0 .1) _ l true),
+          omega (arith, is .capacity-is, is .high-from, child-fits acc st lt (s .pre .0 .1) _ m true),
+          omega (arith, is .capacity-is, is .at, child-fits acc st lt (s .pre .0 .1) (a .loop .i) (le-refl (a .loop .i)) true),
+          sizes a false ∙ sym (sizes a true),
         ),
-        (
-          (
-            state-part (a .loop .inv .1) lt,
-            sizes a false ∙ sym (sizes a true),
-          ),
-          a .loop .inv .2,
-        ),
+        a .loop .inv .2,
       ),
     )
 
@@ -180,12 +210,12 @@ enum-told c = search needs
 same-length : tie.Need-same-length Inv-loop μ-loop
 same-length c =
     let p = full c in
-    p .fill-node .kept .0 ∙ sizes (turn p) true ∙ sym (zeros (start (turn p)) true)
+    p .fill-part .kept .0 ∙ sizes (turn p) true ∙ sym (zeros (start (turn p)) true)
 
 same-length-2 : tie.Need-same-length-2 Inv-loop μ-loop
 same-length-2 c =
     let p = full c in
-    p .fill-node .kept .1 .0 ∙ sizes (turn p) false ∙ sym (zeros (start (turn p)) false)
+    p .fill-part .kept .1 .0 ∙ sizes (turn p) false ∙ sym (zeros (start (turn p)) false)
 
 same-length-3 : tie.Need-same-length-3 Inv-loop μ-loop
 same-length-3 c =
@@ -249,10 +279,13 @@ loop-again c =
           (set (a .loop .counts) i k) (count d .0) (told p (Count k) (d .c .given .1) .masks (count d .0))
           (ap (set (a .loop .counts) i) (count d .1))),
       (
-        p .fill-node .kept .1 .1 .0 ∙ a .loop .inv .2 .0,
-        p .fill-node .kept .1 .1 .1 .0 ∙ a .loop .inv .2 .1,
-        p .fill-node .kept .1 .1 .1 .1 .0 ∙ a .loop .inv .2 .2,
-        p .fill-node .kept .1 .1 .1 .1 .1 .0 ∙ a .loop .inv .2 .3,
+        p .fill-part .kept .1 .1 .0 ∙ a .loop .inv .2 .0,
+        p .fill-part .kept .1 .1 .1 .0 ∙ a .loop .inv .2 .1,
+        p .fill-part .kept .1 .1 .1 .1 .0 ∙ a .loop .inv .2 .2,
+        p .fill-part .kept .1 .1 .1 .1 .1 .0 ∙ a .loop .inv .2 .3,
+        p .fill-part .kept .1 .1 .1 .1 .1 .1 .0 ∙ a .loop .inv .2 .4,
+        p .fill-part .kept .1 .1 .1 .1 .1 .1 .1 .0 ∙ a .loop .inv .2 .5,
+        p .fill-part .kept .1 .1 .1 .1 .1 .1 .1 .1 .0 ∙ a .loop .inv .2 .6,
       ),
     )
 
@@ -282,11 +315,15 @@ fill-all-spec =
     Inv-loop
     μ-loop
     loop-holds
-    slice-aggregate-fill-node
-    slice-aggregate-fill-node-2
-    slice-aggregate-fill-node-3
-    slice-aggregate-fill-node-4
-    fill-node-requires
+    part-of-requires
+    slice-aggregate-fill-part
+    slice-aggregate-fill-part-2
+    slice-aggregate-fill-part-3
+    slice-aggregate-fill-part-4
+    slice-aggregate-fill-part-5
+    slice-aggregate-fill-part-6
+    slice-aggregate-fill-part-7
+    fill-part-requires
     enum-known-c
     enum-told
     same-length

@@ -12,72 +12,80 @@ use Rattle.terms.specs.Term.{termsOf}
 use Rattle.terms.specs.declared.Term.{Term}
 use Rattle.insertion.specs.Filled.{bySign, Filled}
 use Rattle.insertion.proofs.Parts.{Even, even}
-use Rattle.nodes.specs.Part.{nodeMade, termsFrom}
+use Rattle.table.specs.Node.{Node}
+use Rattle.nodes.specs.Part.{Given, nodeMade, termsFrom}
 use Rattle.nodes.proofs.Parts.{length-part, part-filled}
 use Rattle.nodes.proofs.fill_part.Statement.{statement}
 use Rattle.nodes.proofs.fill_part.Tie as tie
 
 -- the four copies
-abbrev copy-bn : tie.After-slice-known10 → tie.After-copy4
+abbrev copy-bn : tie.After-slice-known13 → tie.After-copy4
 copy-bn q = q .before .before
 
-abbrev copy-bp : tie.After-slice-known10 → tie.After-copy3
+abbrev copy-bp : tie.After-slice-known13 → tie.After-copy3
 copy-bp q = copy-bn q .before .before .before .before .before
 
-abbrev copy-an : tie.After-slice-known10 → tie.After-copy2
+abbrev copy-an : tie.After-slice-known13 → tie.After-copy2
 copy-an q = copy-bp q .before .before .before .before .before
 
-abbrev copy-ap : tie.After-slice-known10 → tie.After-copy
+abbrev copy-ap : tie.After-slice-known13 → tie.After-copy
 copy-ap q = copy-an q .before .before .before .before .before
 
-abbrev start : tie.After-slice-known10 → tie.Start
-start q = copy-ap q .before .before .before .before .before .before .before .before .before
+abbrev start : tie.After-slice-known13 → tie.Start
+start q = copy-ap q .before .before .before .before .before .before .before .before .before .before .before .before .before .before .before
 
 -- each scratch slice has place for the terms that were copied, and its front holds just them
-long-ap : (q : tie.After-slice-known10) → start q .args .ca ≤ length (copy-ap q .copy .last .0)
-long-ap q = let s = start q in omega (arith, s .pre .0 .1, s .pre .0 .2, s .pre .1 .1 .0, copy-ap q .copy .kept .0)
+long-ap : (q : tie.After-slice-known13) → start q .args .part .low .count ≤ length (copy-ap q .copy .last .0)
+long-ap q = let s = start q in omega (arith, s .pre .1 .0 .0, s .pre .1 .0 .1, s .pre .1 .1 .0, copy-ap q .copy .kept .0)
 
-long-an : (q : tie.After-slice-known10) → start q .args .ca ≤ length (copy-an q .copy2 .last .0)
-long-an q = let s = start q in omega (arith, s .pre .0 .1, s .pre .0 .2, s .pre .1 .1 .1, copy-an q .copy2 .kept .0)
+long-an : (q : tie.After-slice-known13) → start q .args .part .low .count ≤ length (copy-an q .copy2 .last .0)
+long-an q = let s = start q in omega (arith, s .pre .1 .0 .0, s .pre .1 .0 .1, s .pre .1 .1 .1, copy-an q .copy2 .kept .0)
 
-long-bp : (q : tie.After-slice-known10) → start q .args .cb ≤ length (copy-bp q .copy3 .last .0)
-long-bp q = let s = start q in omega (arith, s .pre .0 .1, s .pre .0 .3, s .pre .1 .1 .2, copy-bp q .copy3 .kept .0)
+long-bp : (q : tie.After-slice-known13) → start q .args .part .high .count ≤ length (copy-bp q .copy3 .last .0)
+long-bp q = let s = start q in omega (arith, s .pre .1 .0 .0, s .pre .1 .0 .2, s .pre .1 .1 .2, copy-bp q .copy3 .kept .0)
 
-long-bn : (q : tie.After-slice-known10) → start q .args .cb ≤ length (copy-bn q .copy4 .last .0)
-long-bn q = let s = start q in omega (arith, s .pre .0 .1, s .pre .0 .3, s .pre .1 .1 .3, copy-bn q .copy4 .kept .0)
+long-bn : (q : tie.After-slice-known13) → start q .args .part .high .count ≤ length (copy-bn q .copy4 .last .0)
+long-bn q = let s = start q in omega (arith, s .pre .1 .0 .0, s .pre .1 .0 .2, s .pre .1 .1 .3, copy-bn q .copy4 .kept .0)
 
-front-ap : (q : tie.After-slice-known10) → length (take (start q .args .ca) (copy-ap q .copy .last .0)) ≡ start q .args .ca
-front-ap q = length-take-le (start q .args .ca) (copy-ap q .copy .last .0) (long-ap q)
+front-ap : (q : tie.After-slice-known13) → length (take (start q .args .part .low .count) (copy-ap q .copy .last .0)) ≡ start q .args .part .low .count
+front-ap q = length-take-le (start q .args .part .low .count) (copy-ap q .copy .last .0) (long-ap q)
 
-front-an : (q : tie.After-slice-known10) → length (take (start q .args .ca) (copy-an q .copy2 .last .0)) ≡ start q .args .ca
-front-an q = length-take-le (start q .args .ca) (copy-an q .copy2 .last .0) (long-an q)
+front-an : (q : tie.After-slice-known13) → length (take (start q .args .part .low .count) (copy-an q .copy2 .last .0)) ≡ start q .args .part .low .count
+front-an q = length-take-le (start q .args .part .low .count) (copy-an q .copy2 .last .0) (long-an q)
 
-front-bp : (q : tie.After-slice-known10) → length (take (start q .args .cb) (copy-bp q .copy3 .last .0)) ≡ start q .args .cb
-front-bp q = length-take-le (start q .args .cb) (copy-bp q .copy3 .last .0) (long-bp q)
+front-bp : (q : tie.After-slice-known13) → length (take (start q .args .part .high .count) (copy-bp q .copy3 .last .0)) ≡ start q .args .part .high .count
+front-bp q = length-take-le (start q .args .part .high .count) (copy-bp q .copy3 .last .0) (long-bp q)
 
-front-bn : (q : tie.After-slice-known10) → length (take (start q .args .cb) (copy-bn q .copy4 .last .0)) ≡ start q .args .cb
-front-bn q = length-take-le (start q .args .cb) (copy-bn q .copy4 .last .0) (long-bn q)
+front-bn : (q : tie.After-slice-known13) → length (take (start q .args .part .high .count) (copy-bn q .copy4 .last .0)) ≡ start q .args .part .high .count
+front-bn q = length-take-le (start q .args .part .high .count) (copy-bn q .copy4 .last .0) (long-bn q)
 
 -- the buffers, and the node's part of them
 abbrev slices : tie.Start → Bool → List ℕ
 slices s = bySign (s .args .positives .now) (s .args .negatives .now)
 
 evens : (s : tie.Start) → Even (slices s)
-evens s = even (s .args .positives .now) (s .args .negatives .now) (s .pre .1 .0 .3)
+evens s = even (s .args .positives .now) (s .args .negatives .now) (s .pre .1 .0 .6)
 
-size : (s : tie.Start) → s .args .at + s .args .capacity - s .args .at ≡ s .args .capacity
+size : (s : tie.Start) → s .args .part .at + s .args .part .capacity - s .args .part .at ≡ s .args .part .capacity
 size s = omega arith
 
 abbrev part : tie.Start → Bool → List ℕ
-part s b = take (s .args .at + s .args .capacity - s .args .at) (drop (s .args .at) (slices s b))
+part s b = take (s .args .part .at + s .args .part .capacity - s .args .part .at) (drop (s .args .part .at) (slices s b))
 
-part-is : (s : tie.Start) (b : Bool) → part s b ≡ take (s .args .capacity) (drop (s .args .at) (slices s b))
-part-is s b = ap (λ (n : ℕ). take n (drop (s .args .at) (slices s b))) (size s)
+part-is : (s : tie.Start) (b : Bool) → part s b ≡ take (s .args .part .capacity) (drop (s .args .part .at) (slices s b))
+part-is s b = ap (λ (n : ℕ). take n (drop (s .args .part .at) (slices s b))) (size s)
 
-part-size : (s : tie.Start) (b : Bool) → length (part s b) ≡ s .args .capacity
+part-size : (s : tie.Start) (b : Bool) → length (part s b) ≡ s .args .part .capacity
 part-size s b =
     ap length (part-is s b)
-    ∙ length-part (s .args .at) (s .args .capacity) (slices s b) (rw (evens s b) (s .pre .1 .0 .2))
+    ∙ length-part (s .args .part .at) (s .args .part .capacity) (slices s b) (rw (evens s b) (s .pre .1 .0 .5))
+
+-- what is given of the children's terms is given of the copies
+given-copied : (y : Node) {l₁ l₂ l₃ l₄ m₁ m₂ m₃ m₄ : List ℕ} → m₁ ≡ l₁ → m₂ ≡ l₂ → m₃ ≡ l₃ → m₄ ≡ l₄ → Given y l₁ l₂ l₃ l₄ → Given y m₁ m₂ m₃ m₄
+given-copied y {l₁} {l₂} {l₃} {l₄} {m₁} {m₂} {m₃} {m₄} e₁ e₂ e₃ e₄ g =
+    subst (λ (z : List ℕ). Given y z m₂ m₃ m₄) (sym e₁)
+    (subst (λ (z : List ℕ). Given y l₁ z m₃ m₄) (sym e₂)
+    (subst (λ (z : List ℕ). Given y l₁ l₂ z m₄) (sym e₃) (subst (λ (z : List ℕ). Given y l₁ l₂ l₃ z) (sym e₄) g)))
 
 copy-requires : tie.Need-copy-requires
 copy-requires c κs = search needs
@@ -89,13 +97,16 @@ copy-requires-3 : tie.Need-copy-requires-3
 copy-requires-3 c κs = search needs
 
 copy-requires-4 : tie.Need-copy-requires-4
-copy-requires-4 c κs = search needs
+copy-requires-4 c κs =
+    let s = c .before .before .before .before .before .before .before .before .before .before .before .before .before .before .before .before .before .before .before .before .before .before .before .before .before .before .before .before .before in
+    let p = s .pre .1 .0 in
+    (omega (arith, p .2, p .4, p .6), omega (arith, p .0, p .2, s .pre .1 .1 .3))
 
 add-end : tie.Need-add-end
 add-end c = search needs
 
 mul-make : tie.Need-mul-make
-mul-make c = search needs
+mul-make c = let s = start c in omega (arith, s .good .0, s .pre .1 .0 .5)
 
 sub-make : tie.Need-sub-make
 sub-make c = search needs
@@ -104,10 +115,10 @@ part-make-start : tie.Need-part-make-start
 part-make-start c = search needs
 
 part-make-end : tie.Need-part-make-end
-part-make-end c = search needs
+part-make-end c = start c .pre .1 .0 .5
 
 mul-make-2 : tie.Need-mul-make-2
-mul-make-2 c = search needs
+mul-make-2 c = let s = start (c .before) in omega (arith, s .good .0, s .pre .1 .0 .5)
 
 sub-make-2 : tie.Need-sub-make-2
 sub-make-2 c = search needs
@@ -116,38 +127,47 @@ part-make-start-2 : tie.Need-part-make-start-2
 part-make-start-2 c = search needs
 
 part-make-end-2 : tie.Need-part-make-end-2
-part-make-end-2 c = let s = start (c .before) in rw (s .pre .1 .0 .3) (s .pre .1 .0 .2)
+part-make-end-2 c = let s = start (c .before) in rw (s .pre .1 .0 .6) (s .pre .1 .0 .5)
 
 slice-reshare-prefix-make : tie.Need-slice-reshare-prefix-make
-slice-reshare-prefix-make c = long-ap (c .before .before)
+slice-reshare-prefix-make c = long-ap (c .before .before .before .before .before)
 
 slice-aggregate-make : tie.Need-slice-aggregate-make
-slice-aggregate-make c = sym (front-ap (c .before .before .before))
+slice-aggregate-make c = sym (front-ap (c .before .before .before .before .before .before))
 
 slice-reshare-prefix-make-2 : tie.Need-slice-reshare-prefix-make-2
-slice-reshare-prefix-make-2 c = long-an (c .before .before .before)
+slice-reshare-prefix-make-2 c = long-an (c .before .before .before .before .before .before)
 
 slice-aggregate-make-2 : tie.Need-slice-aggregate-make-2
-slice-aggregate-make-2 c = sym (front-an (c .before .before .before .before))
+slice-aggregate-make-2 c = sym (front-an (c .before .before .before .before .before .before .before))
 
 slice-reshare-prefix-make-3 : tie.Need-slice-reshare-prefix-make-3
-slice-reshare-prefix-make-3 c = long-bp (c .before .before .before .before)
+slice-reshare-prefix-make-3 c = long-bp (c .before .before .before .before .before .before .before)
 
 slice-aggregate-make-3 : tie.Need-slice-aggregate-make-3
-slice-aggregate-make-3 c = sym (front-bp (c .before .before .before .before .before))
+slice-aggregate-make-3 c = sym (front-bp (c .before .before .before .before .before .before .before .before))
 
 slice-reshare-prefix-make-4 : tie.Need-slice-reshare-prefix-make-4
-slice-reshare-prefix-make-4 c = long-bn (c .before .before .before .before .before)
+slice-reshare-prefix-make-4 c = long-bn (c .before .before .before .before .before .before .before .before)
 
 slice-aggregate-make-4 : tie.Need-slice-aggregate-make-4
-slice-aggregate-make-4 c = sym (front-bn (c .before .before .before .before .before .before))
+slice-aggregate-make-4 c = sym (front-bn (c .before .before .before .before .before .before .before .before .before))
 
 make-requires : tie.Need-make-requires
 make-requires c κs =
-    let q = c .before .before .before .before .before .before in
-    let s = start q in (
-      (s .pre .0 .0, part-size s false ∙ sym (part-size s true)),
-      (front-an q ∙ sym (front-ap q), front-bn q ∙ sym (front-bp q)),
+    let q = c .before .before .before .before .before .before .before .before .before in
+    let s = start q in
+    let x = s .args in (
+      given-copied (gateNode (x .part .gate)) (copy-ap q .copy .ensures) (copy-an q .copy2 .ensures) (copy-bp q .copy3 .ensures)
+          (copy-bn q .copy4 .ensures) (s .pre .0),
+      (
+        part-size s false ∙ sym (part-size s true),
+        s .pre .1 .1 .4,
+        s .pre .1 .1 .5,
+        s .pre .1 .1 .6,
+        front-an q ∙ sym (front-ap q),
+        front-bn q ∙ sym (front-bp q),
+      ),
     )
 
 same-length : tie.Need-same-length
@@ -157,7 +177,7 @@ same-length-2 : tie.Need-same-length-2
 same-length-2 c = search needs
 
 same-length-3 : tie.Need-same-length-3
-same-length-3 c = search needs
+same-length-3 c = copy-ap (c .before .before .before .before .before .before .before .before .before .before .before .before .before .before .before .before .before .before .before .before) .copy .kept .0
 
 same-length-4 : tie.Need-same-length-4
 same-length-4 c = search needs
@@ -168,44 +188,53 @@ same-length-5 c = search needs
 same-length-6 : tie.Need-same-length-6
 same-length-6 c = search needs
 
+same-length-7 : tie.Need-same-length-7
+same-length-7 c = search needs
+
+same-length-8 : tie.Need-same-length-8
+same-length-8 c = search needs
+
+same-length-9 : tie.Need-same-length-9
+same-length-9 c = search needs
+
 returns : tie.Need-returns
 returns c =
-    let m = c .before .before .before .before in
-    let q = m .before .before .before .before .before .before .before in
+    let m = c .before .before .before .before .before .before .before .before .before .before in
+    let q = m .before .before .before .before .before .before .before .before .before .before in
     let s = start q in
     let x = s .args in
     let p : Bool → List ℕ = bySign (m .make .last .0) (m .make .last .1 .0) in
-    let n : ℕ = x .at + x .capacity - x .at in
-    let copied : nodeMade (gateNode (x .gate))
-    (termsOf (take (x .ca) (copy-ap q .copy .last .0)) (take (x .ca) (copy-an q .copy2 .last .0)))
-    (termsOf (take (x .cb) (copy-bp q .copy3 .last .0)) (take (x .cb) (copy-bn q .copy4 .last .0)))
-    ≡ nodeMade (gateNode (x .gate)) (termsFrom (slices s) (x .a) (x .ca)) (termsFrom (slices s) (x .b) (x .cb)) =
-    λ i. nodeMade (gateNode (x .gate)) (termsOf (copy-ap q .copy .ensures i) (copy-an q .copy2 .ensures i))
+    let n : ℕ = x .part .at + x .part .capacity - x .part .at in
+    let copied : nodeMade (gateNode (x .part .gate))
+    (termsOf (take (x .part .low .count) (copy-ap q .copy .last .0)) (take (x .part .low .count) (copy-an q .copy2 .last .0)))
+    (termsOf (take (x .part .high .count) (copy-bp q .copy3 .last .0)) (take (x .part .high .count) (copy-bn q .copy4 .last .0)))
+    ≡ nodeMade (gateNode (x .part .gate)) (termsFrom (slices s) (x .part .low .from) (x .part .low .count)) (termsFrom (slices s) (x .part .high .from) (x .part .high .count)) =
+    λ i. nodeMade (gateNode (x .part .gate)) (termsOf (copy-ap q .copy .ensures i) (copy-an q .copy2 .ensures i))
     (termsOf (copy-bp q .copy3 .ensures i) (copy-bn q .copy4 .ensures i)) in
     let s′ : Bool → List ℕ =
-    bySign (take (x .at) (slices s true) ++ (p true ++ drop n (drop (x .at) (slices s true))))
-    (take (x .at) (slices s false) ++ (p false ++ drop n (drop (x .at) (slices s false)))) in
-    let whole : (b : Bool) → s′ b ≡ take (x .at) (slices s b) ++ (p b ++ drop (x .capacity) (drop (x .at) (slices s b))) =
+    bySign (take (x .part .at) (slices s true) ++ (p true ++ drop n (drop (x .part .at) (slices s true))))
+    (take (x .part .at) (slices s false) ++ (p false ++ drop n (drop (x .part .at) (slices s false)))) in
+    let whole : (b : Bool) → s′ b ≡ take (x .part .at) (slices s b) ++ (p b ++ drop (x .part .capacity) (drop (x .part .at) (slices s b))) =
     λ b. elim b [
-      | true ↦ ap (λ (k : ℕ). take (x .at) (slices s true) ++ (p true ++ drop k (drop (x .at) (slices s true)))) (size s)
-      | false ↦ ap (λ (k : ℕ). take (x .at) (slices s false) ++ (p false ++ drop k (drop (x .at) (slices s false)))) (size s)
+      | true ↦ ap (λ (k : ℕ). take (x .part .at) (slices s true) ++ (p true ++ drop k (drop (x .part .at) (slices s true)))) (size s)
+      | false ↦ ap (λ (k : ℕ). take (x .part .at) (slices s false) ++ (p false ++ drop k (drop (x .part .at) (slices s false)))) (size s)
     ] in
-    let parts : (b : Bool) → bySign (part s true) (part s false) b ≡ take (x .capacity) (drop (x .at) (slices s b)) =
+    let parts : (b : Bool) → bySign (part s true) (part s false) b ≡ take (x .part .capacity) (drop (x .part .at) (slices s b)) =
     λ b. elim b [ true ↦ part-is s true | false ↦ part-is s false ] in
     part-filled
-    (nodeMade (gateNode (x .gate)) (termsFrom (slices s) (x .a) (x .ca)) (termsFrom (slices s) (x .b) (x .cb))) (x .at) (x .capacity)
-    (slices s) (bySign (part s true) (part s false)) p s′ (m .make .result) (s .pre .1 .0 .2) parts whole
+    (nodeMade (gateNode (x .part .gate)) (termsFrom (slices s) (x .part .low .from) (x .part .low .count)) (termsFrom (slices s) (x .part .high .from) (x .part .high .count))) (x .part .at) (x .part .capacity)
+    (slices s) (bySign (part s true) (part s false)) p s′ (m .make .result) (s .pre .1 .0 .5) parts whole
     (subst (λ (l : List Term). Filled l (bySign (part s true) (part s false)) p (m .make .result)) copied (m .make .ensures))
 
 pub fill-part-spec : {M : Type 1} → statement M
 fill-part-spec =
     tie.close
     (tie.spec
+    add-end
     copy-requires
     copy-requires-2
     copy-requires-3
     copy-requires-4
-    add-end
     mul-make
     sub-make
     part-make-start
@@ -229,4 +258,7 @@ fill-part-spec =
     same-length-4
     same-length-5
     same-length-6
+    same-length-7
+    same-length-8
+    same-length-9
     returns)

@@ -8,11 +8,13 @@ use Rattle.table.specs.Gate.{gateNode}
 use Rattle.table.specs.declared.Gate.{Gate}
 use Rattle.table.specs.declared.Gate.the-variants.{Constant, Literal, Decision, Conjunction, Unknown}
 use Rattle.terms.specs.Term.{termsOf}
+use Rattle.terms.specs.declared.Term.{Term}
 use Rattle.insertion.specs.Filled.{bySign, Filled}
 use Rattle.insertion.specs.declared.Kept.{Kept}
 use Rattle.insertion.specs.declared.Kept.the-variants.{Count}
 use Rattle.insertion.proofs.Parts.{even, filled-none}
-use Rattle.nodes.specs.Part.{Named, nodeMade}
+use Rattle.nodes.specs.Part.{Given, nodeMade}
+use Rattle.nodes.proofs.Both.{both-made}
 use Rattle.nodes.proofs.make.Statement.{statement}
 use Rattle.nodes.proofs.make.Tie as tie
 
@@ -28,12 +30,13 @@ Made s g s′ k =
 made : (s : tie.Start) (g : Gate) (s′ : Bool → List ℕ) (k : Kept) → s .args .gate ≡ g → Made s g s′ k → Made s (s .args .gate) s′ k
 made s g s′ k e h = subst (λ (z : Gate). Made s z s′ k) (sym e) h
 
--- the variable of a literal or of a decision has a bit
-named : (s : tie.Start) (g : Gate) → s .args .gate ≡ g → Named (gateNode g)
-named s g e = subst (λ (z : Gate). Named (gateNode z)) e (s .pre .0 .0)
+-- what is given for it
+given : (s : tie.Start) (g : Gate) → s .args .gate ≡ g
+    → let x = s .args in Given (gateNode g) (x .ap .now) (x .an .now) (x .bp .now) (x .bn .now)
+given s g e = let x = s .args in subst (λ (z : Gate). Given (gateNode z) (x .ap .now) (x .an .now) (x .bp .now) (x .bn .now)) e (s .pre .0)
 
 abbrev start : tie.After-shared-slice-known4 → tie.Start
-start p = p .before .before .before .before .before .before
+start p = p .before .before .before .before .before .before .before .before .before
 
 enum-known-gate : tie.Need-enum-known-gate
 enum-known-gate c = search needs
@@ -48,17 +51,17 @@ literal-requires : tie.Need-literal-requires
 literal-requires c κs =
     let g = c .before .before .before in
     let s = start (g .before .before) in
-    (named s (Literal (g .gate2 .given .0 .0) (g .gate2 .given .0 .1 .0)) (g .gate2 .given .1), s .pre .0 .1)
+    (given s (Literal (g .gate2 .given .0 .0) (g .gate2 .given .0 .1 .0)) (g .gate2 .given .1), s .pre .1 .0)
 
 enum-known-gate-3 : tie.Need-enum-known-gate-3
 enum-known-gate-3 c = search needs
 
 decision-requires : tie.Need-decision-requires
 decision-requires c κs =
-    let g = c .before .before .before in
+    let g = c .before .before .before .before .before .before in
     let s = start (g .before .before) in
     let d = g .gate3 .given in
-    ((named s (Decision (d .0 .0) (d .0 .1 .0) (d .0 .1 .1 .0)) (d .1), s .pre .0 .1), s .pre .1)
+    (given s (Decision (d .0 .0) (d .0 .1 .0) (d .0 .1 .1 .0)) (d .1), (s .pre .1 .0, s .pre .1 .1, s .pre .1 .2, s .pre .1 .3))
 
 enum-told : tie.Need-enum-told
 enum-told c = search needs
@@ -102,34 +105,47 @@ same-length-5 c = search needs
 same-length-6 : tie.Need-same-length-6
 same-length-6 c = search needs
 
-returns-3 : tie.Need-returns-3
-returns-3 c =
-    let i = c .before .before .before .before in
-    let g = i .before .before .before .before in
-    let d = g .gate3 .given in
-    made (start (g .before .before)) (Decision (d .0 .0) (d .0 .1 .0) (d .0 .1 .1 .0))
-    (bySign (i .decision .last .0) (i .decision .last .1 .0)) (i .decision .result) (d .1) (i .decision .ensures)
-
 same-length-7 : tie.Need-same-length-7
 same-length-7 c = search needs
 
 same-length-8 : tie.Need-same-length-8
 same-length-8 c = search needs
 
+same-length-9 : tie.Need-same-length-9
+same-length-9 c = search needs
+
+returns-3 : tie.Need-returns-3
+returns-3 c =
+    let i = c .before .before .before .before .before .before .before .before .before .before in
+    let g = i .before .before .before .before .before .before .before in
+    let d = g .gate3 .given in
+    made (start (g .before .before)) (Decision (d .0 .0) (d .0 .1 .0) (d .0 .1 .1 .0))
+    (bySign (i .decision .last .0) (i .decision .last .1 .0)) (i .decision .result) (d .1) (i .decision .ensures)
+
+same-length-10 : tie.Need-same-length-10
+same-length-10 c = search needs
+
+same-length-11 : tie.Need-same-length-11
+same-length-11 c = search needs
+
 returns-4 : tie.Need-returns-4
 returns-4 c =
     let i = c .before .before .before .before in
     let g = i .before .before .before in
+    let s = start (g .before .before) in
+    let x = s .args in
     let d = g .enum-told .given in
-    made (start (g .before .before)) (Conjunction (d .0 .0) (d .0 .1 .0))
-    (bySign (i .conjunction .last .0) (i .conjunction .last .1 .0)) (i .conjunction .result) (d .1) (i .conjunction .ensures)
+    let s′ : Bool → List ℕ = bySign (i .conjunction .last .0) (i .conjunction .last .1 .0) in
+    made s (Conjunction (d .0 .0) (d .0 .1 .0)) s′ (i .conjunction .result) (d .1)
+    (subst (λ (l : List Term). Filled l (slices s) s′ (i .conjunction .result))
+    (both-made (given s (Conjunction (d .0 .0) (d .0 .1 .0)) (d .1) .sides)) (i .conjunction .ensures))
 
 returns-5 : tie.Need-returns-5
 returns-5 c =
     let s = start (c .before .before) in
     let x = s .args in
     made s Unknown (slices s) (Count 0) (c .enum-told2 .given .1)
-    (filled-none (slices s) (even (x .positives .now) (x .negatives .now) (s .pre .0 .1)) 0 zero-le)
+    (filled-none (slices s) (even (x .positives .now) (x .negatives .now) (s .pre .1 .0)) 0 zero-le)
 
 pub make-spec : {M : Type 1} → statement M
 make-spec =
@@ -152,8 +168,11 @@ make-spec =
     returns-2
     same-length-5
     same-length-6
-    returns-3
     same-length-7
     same-length-8
+    same-length-9
+    returns-3
+    same-length-10
+    same-length-11
     returns-4
     returns-5)

@@ -3,8 +3,8 @@ use Prim.Native.Nat.{ℕ, _+_, _*_, _≤_, _<_}
 use mathlib.Core.Path.{_≡_, sym, subst, _∙_}
 use mathlib.Core.Bool.{Bool, true, false, not, true≢false}
 use mathlib.Core.Logic.{⊎-elim}
-use mathlib.Core.List.{List, _++_, List·Memᴰ, List·Memᴰ·append-cases, Memᴰ·append-left, Memᴰ·append-right}
-use native.Mathlib.Nat.{lt-irrefl, lt-of-lt-of-le, not-suc-le-zero}
+use mathlib.Core.List.{List, List·Memᴰ, List·Memᴰ·append-cases, Memᴰ·append-left, Memᴰ·append-right}
+use native.Mathlib.Nat.{lt-of-lt-of-le, not-suc-le-zero}
 use native.Mathlib.Numerals.{add-one}
 use lib.Dec.{T}
 use lib.ListN.{length}
@@ -25,7 +25,7 @@ use Rattle.settling.specs.Growth.{Grew, Overflow, Keeps, Grown}
 use Rattle.settling.specs.Sides.{leastJoins, KeptIn}
 use Rattle.settling.specs.declared.counts.Counts.{Counts}
 use Rattle.settling.specs.declared.counts.Growth.{Growth}
-use Rattle.settling.specs.declared.counts.Growth.the-variants.{To, Over}
+use Rattle.settling.specs.declared.counts.Growth.the-variants.{To}
 use Rattle.settling.proofs.Down.{low-in, high-in}
 use Rattle.settling.proofs.Growth.{grew-none, grew-length, grew-front, grew-then, grew-insert, over-then, over-insert}
 use Rattle.settling.proofs.Grows.{kept-grown}

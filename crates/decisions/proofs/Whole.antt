@@ -1,11 +1,10 @@
 -- The terms of both sides and all least joins make the decision's list.
-use Prim.Native.Nat.{ℕ, _*_, _≤_, _<_, zero-le}
+use Prim.Native.Nat.{ℕ, _*_, zero-le}
 use mathlib.Core.Path.{_≡_, refl, sym, subst}
 use mathlib.Core.Bool.{Bool, true, false}
 use mathlib.Core.Logic.{⊎-elim}
 use mathlib.Core.List.{List, _++_, List·Memᴰ, List·Memᴰ·not-nil, List·Memᴰ·append-cases, Memᴰ·append-left, Memᴰ·append-right}
 use native.Mathlib.Nat.{not-suc-le-zero}
-use native.Mathlib.Omega.{arith}
 use lib.ListN.{length}
 use Rattle.terms.specs.Joins.{extended, decisionTerms}
 use Rattle.terms.specs.Lists.{sort}
@@ -17,14 +16,14 @@ use Rattle.lists.specs.Scans.{termAt}
 use Rattle.insertion.specs.Filled.{held, Filled}
 use Rattle.insertion.specs.declared.Kept.the-variants.{Count, Full}
 use Rattle.decisions.specs.Extended.{Extending, sideTerms, ListsSide}
-use Rattle.settling.specs.Growth.{Front, Grew, Overflow, Growing, Grown}
-use Rattle.settling.specs.Sides.{DecidedAt, leastJoins, KeptIn, AllSettled, Settled}
+use Rattle.settling.specs.Growth.{Grew, Overflow, Growing, Grown}
+use Rattle.settling.specs.Sides.{DecidedAt, leastJoins, AllSettled, Settled}
 use Rattle.settling.specs.declared.counts.Counts.{Counts}
-use Rattle.settling.specs.declared.counts.Growth.the-variants.{To, Over}
+use Rattle.settling.specs.declared.counts.Growth.the-variants.{To}
 use Rattle.settling.proofs.Growth.{grew-front, grew-then, grew-whole, over-then, over-whole}
-use Rattle.settling.proofs.Least.{turned, least-terms, least-turned, all-listed, place-of}
+use Rattle.settling.proofs.Least.{least-terms, least-turned, all-listed, place-of}
 use Rattle.decisions.proofs.OneSide.{side-terms}
-use Rattle.pairing.proofs.Steps.{at-turned, growing-turned, grew-wider, over-wider, kept-wider}
+use Rattle.pairing.proofs.Steps.{growing-turned, grew-wider, over-wider}
 
 module _ {x : ℕ} {ap an bp bn : List ℕ} (h : DecidedAt x ap an bp bn) where
   abbrev a : List Term

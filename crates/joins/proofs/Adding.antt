@@ -1,24 +1,21 @@
 -- Terms inserted one after the other, and what is left in the slices when one list after another was inserted.
 use Prim.Native.Nat.{ℕ, _+_, _-_, _≤_}
-use mathlib.Core.Path.{_≡_, refl, sym, ap, ap₂, subst, _∙_}
-use mathlib.Core.Bool.{Bool, true, false}
+use mathlib.Core.Path.{_≡_, refl, subst}
+use mathlib.Core.Bool.{Bool, true}
 use mathlib.Core.List.{List, [], _∷_, _++_}
 use native.Mathlib.Nat.{le-refl, le-trans, lt-of-lt-of-le}
-use native.Mathlib.Omega.{arith}
-use lib.ListN.{length, take, drop, length-append, length-drop}
-use lib.Seq.{take-at, drop-at, drop-drop}
+use lib.ListN.{length}
 use Rattle.terms.specs.Lists.{insert, Rising}
 use Rattle.terms.specs.Order.{before}
-use Rattle.terms.specs.Term.{termsOf}
 use Rattle.terms.specs.declared.Term.{Term}
 use Rattle.terms.proofs.Listed.{before-irrefl, before-trans}
 use Rattle.terms.proofs.Sorted.{insert-rising}
-use Rattle.insertion.specs.Filled.{held, masksOf, keptOf, Filled}
+use Rattle.insertion.specs.Filled.{Filled}
 use Rattle.insertion.specs.declared.Kept.{Kept}
 use Rattle.insertion.specs.declared.Kept.the-variants.{Count, Full}
 use Rattle.insertion.proofs.Again.{filled-held, filled-then}
 use Rattle.insertion.proofs.Inserted.{length-insert}
-use Rattle.insertion.proofs.Parts.{terms-masks, length-masks, Even, kept-count, kept-full, filled-full}
+use Rattle.insertion.proofs.Parts.{Even, kept-full, filled-full}
 use Rattle.joins.specs.Added.{insertAll, Added}
 
 pub insertAll-append : (l k acc : List Term) → insertAll (l ++ k) acc ≡ insertAll k (insertAll l acc)

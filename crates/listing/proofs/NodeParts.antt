@@ -9,8 +9,6 @@ use native.Mathlib.Omega.{arith}
 use lib.ListN.{length, take, drop, getD}
 use Rattle.table.specs.Gate.{gateNode, childAt}
 use Rattle.table.specs.Node.{Node, nodeAt}
-use Rattle.terms.specs.Term.{termsOf}
-use Rattle.terms.specs.declared.Term.{Term}
 use Rattle.circuits.proofs.Accepted.{Accepted}
 use Rattle.lists.specs.Capacity.{maxCapacity}
 use Rattle.nodes.specs.Part.{nodeMade, Given, termsFrom, IsPart}

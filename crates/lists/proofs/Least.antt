@@ -1,41 +1,25 @@
--- A shorter join: a pair of places shows one, and there is one exactly if some join is inside the term and has fewer literals.
+-- A shorter join: there is one exactly if some join is inside the term and has fewer literals.
 use Prim.Native.Nat.{ℕ, _<_, _≤_}
-use mathlib.Core.Path.{_≡_, refl, sym, ap, subst}
-use mathlib.Core.Bool.{Bool, true, _&&_, not}
+use mathlib.Core.Path.{_≡_, refl, ap, subst}
+use mathlib.Core.Bool.{Bool, _&&_, not}
 use mathlib.Core.Logic.{⊎-elim}
 use mathlib.Core.List.{List, List·Memᴰ}
 use native.Mathlib.Omega.{arith}
 use lib.Dec.{T, T-not, not-T, ltb, ltb→lt, nltb→le}
-use lib.ListN.{length}
 use Rattle.masks.specs.Mask.{width}
-use Rattle.masks.proofs.Tests.{and-i, and-l, and-r, decide, is-true, along, same-test}
+use Rattle.masks.proofs.Tests.{and-i, and-l, and-r, decide, same-test}
 use Rattle.terms.specs.Joins.{joins, holdsShorter}
 use Rattle.terms.specs.Lists.{any}
-use Rattle.terms.specs.Term.{literals, join, inside, IsTerm, termsOf}
+use Rattle.terms.specs.Term.{literals, join, inside, IsTerm}
 use Rattle.terms.specs.declared.Term.{Term}
 use Rattle.terms.proofs.Built.{joins-in, joins-out, conflict-free, joined-free, as-long, JoinOf}
 use Rattle.terms.proofs.Sorted.{any-i, any-e}
 use Rattle.terms.proofs.Terms.{Inside, inside-trans, join-l, join-r, join-least, term-ext, join-isTerm, join-within, inside-e, inside-i}
-use Rattle.lists.specs.Scans.{termAt, short, shorter, shorterJoin, shorterAt}
-use Rattle.lists.proofs.Parts.{term-in}
+use Rattle.lists.specs.Scans.{short, shorter, shorterJoin}
 
 -- the list is of terms over N variables
 abbrev pub Terms : ℕ → List Term → Type 0
 Terms N l = (t : Term) → List·Memᴰ t l → IsTerm N t
-
--- a pair that is there shows one
-pub shorter-there : (ap an bp bn : List ℕ) (k l : ℕ) (t : Term) → length an ≡ length ap → length bn ≡ length bp
-    → shorterAt ap an bp bn k l t ≡ true → shorterJoin (termsOf ap an) (termsOf bp bn) t ≡ true
-shorter-there ap an bp bn k l t d e s =
-    let a : Term = termAt ap an k in
-    let b : Term = termAt bp bn l in
-    let h : T ((ltb k (length ap) && ltb l (length bp)) && shorter t a b) = along (sym s) tt in
-    let there : T (ltb k (length ap) && ltb l (length bp)) = and-l (ltb k (length ap) && ltb l (length bp)) (shorter t a b) h in
-    let ma : List·Memᴰ a (termsOf ap an) = term-in ap an k d (ltb→lt k (length ap) (and-l (ltb k (length ap)) (ltb l (length bp)) there)) in
-    let mb : List·Memᴰ b (termsOf bp bn) = term-in bp bn l e (ltb→lt l (length bp) (and-r (ltb k (length ap)) (ltb l (length bp)) there)) in
-    is-true (shorterJoin (termsOf ap an) (termsOf bp bn) t)
-    (any-i (λ a. any (shorter t a) (termsOf bp bn)) (termsOf ap an) a ma
-    (any-i (shorter t a) (termsOf bp bn) b mb (and-r (ltb k (length ap) && ltb l (length bp)) (shorter t a b) h)))
 
 module _ (N : ℕ) (wide : N ≤ width) where
   -- a term inside t that lacks a literal of t has fewer

@@ -4,7 +4,7 @@ ghost use Prim.Native.Nat.{_<_};
 ghost use lib.ListN.{length};
 ghost use Rattle.terms.specs.Lists.{any};
 ghost use Rattle.terms.specs.Term.{inside, termsOf};
-ghost use Rattle.lists.specs.Scans.{termAt, short, shorterAt, narrowed, Found};
+ghost use Rattle.lists.specs.Scans.{termAt, short, narrowed, Found};
 use terms::Term;
 
 // How many terms of a node there may be room for.
@@ -48,28 +48,6 @@ fn is_short(t: Term, a: Term, b: Term) -> bool
 {
     if terms::inside(b, t) {
         return !terms::inside(t, terms::join(a, b));
-    }
-    false
-}
-
-// Term k of the list a and term l of the list b are there and inside t, and their join lacks a literal of t.
-pub fn is_shorter_at(
-    ap: &[u64],
-    an: &[u64],
-    bp: &[u64],
-    bn: &[u64],
-    k: usize,
-    l: usize,
-    t: Term,
-) -> bool
-    requires { ⌜ (length (now an) ≡ length (now ap)) × (length (now bn) ≡ length (now bp)) ⌝ }
-    ensures { λ r. ⌜ r ≡ shorterAt (now (ap .entry)) (now (an .entry)) (now (bp .entry)) (now (bn .entry)) k l t ⌝ }
-{
-    if (k < ap.len()) & (l < bp.len()) {
-        let a = term_at(ap, an, k);
-        if terms::inside(a, t) {
-            return is_short(t, a, term_at(bp, bn, l));
-        }
     }
     false
 }

@@ -1,37 +1,30 @@
 -- The terms of a conjunction of two: all joins, in whichever order they are made.
-use Prim.Native.Nat.{ℕ}
 use mathlib.Core.Path.{_≡_, refl, sym, ap, ap₂, subst, _∙_}
-use mathlib.Core.Bool.{not}
 use mathlib.Core.List.{List, [], _∷_, List·Memᴰ, List·Memᴰ·head, List·Memᴰ·eq-of-singleton}
-use lib.Bits.{or-comm, or-zero-r}
-use lib.Dec.{T}
+use lib.Bits.{or-zero-r}
 use Rattle.terms.specs.Joins.{joins}
 use Rattle.terms.specs.Lists.{sort}
 use Rattle.terms.specs.Order.{before}
-use Rattle.terms.specs.Term.{term, empty, join, conflict, IsTerm}
+use Rattle.terms.specs.Term.{term, empty, join, IsTerm}
 use Rattle.terms.specs.declared.Term.{Term}
 use Rattle.terms.proofs.Built.{joins-in, joins-out, joined-free, JoinOf}
-use Rattle.lists.proofs.Least.{Terms}
 use Rattle.joins.specs.Added.{insertAll}
 use Rattle.joins.proofs.Members.{inserted-sorted}
 use Rattle.settling.specs.Sides.{Sides}
-use Rattle.settling.proofs.Least.{turned, high-terms, joins-terms}
-
-join-comm : (t u : Term) → join t u ≡ join u t
-join-comm t u = ap₂ term (or-comm (t .positive) (u .positive)) (or-comm (t .negative) (u .negative))
+use Rattle.settling.proofs.Least.{join-comm, turned, high-terms, joins-terms}
 
 join-empty : (t : Term) → join t empty ≡ t
 join-empty t = ap₂ term (or-zero-r (t .positive)) (or-zero-r (t .negative))
 
-module _ {a b : List Term} (h : Sides a b) where
-  -- the joins the other way round
-  swapped : (t : Term) → List·Memᴰ t (joins b a) → List·Memᴰ t (joins a b)
-  swapped t m =
-      let j : JoinOf b a t = joins-out a b t m in
-      let e : t ≡ join (j .right) (j .left) = j .is ∙ join-comm (j .left) (j .right) in
-      joins-in b a (j .right) (j .left) t (j .in-right) (j .in-left)
-      (joined-free (h .variables) (h .wide) (j .right) (j .left) (subst (IsTerm (h .variables)) e (joins-terms (turned h) t m))) e
+-- the joins the other way round
+swapped : {a b : List Term} → Sides a b → (t : Term) → List·Memᴰ t (joins b a) → List·Memᴰ t (joins a b)
+swapped {a} {b} h t m =
+    let j : JoinOf b a t = joins-out a b t m in
+    let e : t ≡ join (j .right) (j .left) = j .is ∙ join-comm (j .left) (j .right) in
+    joins-in b a (j .right) (j .left) t (j .in-right) (j .in-left)
+    (joined-free (h .variables) (h .wide) (j .right) (j .left) (subst (IsTerm (h .variables)) e (joins-terms (turned h) t m))) e
 
+module _ {a b : List Term} (h : Sides a b) where
   -- the joins with the empty term are the terms themselves
   alone-in : (u : Term) → List·Memᴰ u b → List·Memᴰ u (joins b (empty ∷ []))
   alone-in u m =
@@ -58,11 +51,4 @@ module _ {a b : List Term} (h : Sides a b) where
   pub both-made : insertAll (joins b a) [] ≡ sort before (joins a (joins b (empty ∷ [])))
   both-made =
       inserted-sorted (h .variables) (joins b a) (joins a (joins b (empty ∷ []))) (joins-terms (turned h))
-      (λ t m. with-alone t (swapped t m)) (λ t m. back t (without-alone t m))
-    where
-      back : (t : Term) → List·Memᴰ t (joins a b) → List·Memᴰ t (joins b a)
-      back t m =
-          let j : JoinOf a b t = joins-out b a t m in
-          let e : t ≡ join (j .right) (j .left) = j .is ∙ join-comm (j .left) (j .right) in
-          joins-in a b (j .right) (j .left) t (j .in-right) (j .in-left)
-          (joined-free (h .variables) (h .wide) (j .right) (j .left) (subst (IsTerm (h .variables)) e (joins-terms h t m))) e
+      (λ t m. with-alone t (swapped h t m)) (λ t m. swapped (turned h) t (without-alone t m))

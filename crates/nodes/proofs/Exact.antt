@@ -1,13 +1,11 @@
 -- One node of an accepted table: its children's terms are what is taken for granted of them, and what is made of them is its own.
 use Prim.Native.Nat.{ℕ, _≤_, _<_, zero-le}
 use mathlib.Core.Path.{_≡_, refl, sym, ap₂, subst, _∙_}
-use mathlib.Core.Bool.{Bool, true, false}
+use mathlib.Core.Bool.{true, false}
 use mathlib.Core.List.{List, [], _∷_, List·Memᴰ, List·Memᴰ·head, List·Memᴰ·tail}
 use native.Mathlib.Nat.{le-of-lt}
 use native.Mathlib.Omega.{arith}
-use lib.Dec.{T}
 use lib.ListN.{length}
-use Rattle.masks.specs.Mask.{width}
 use Rattle.table.specs.Gate.{childAt}
 use Rattle.table.specs.Node.{kind, node, word, nodeAt, Kind, constantKind, literalKind, decisionKind, conjunctionKind, unknownKind}
 use Rattle.table.specs.Node.{Node, constant, literal, decision, conjunction, unknown}
@@ -15,18 +13,17 @@ use Rattle.terms.specs.Joins.{joins, decisionTerms}
 use Rattle.terms.specs.Lists.{sort, Rising}
 use Rattle.terms.specs.Order.{before}
 use Rattle.terms.specs.Prime.{primes, Lists}
-use Rattle.terms.specs.Term.{empty, has, termsOf}
+use Rattle.terms.specs.Term.{empty, termsOf}
 use Rattle.terms.specs.declared.Term.{Term}
 use Rattle.terms.proofs.Implicants.{free-unmentioned}
 use Rattle.terms.proofs.Listed.{primes-lists, primes-rising}
 use Rattle.circuits.specs.Function.{function}
-use Rattle.circuits.specs.Terms.{nodeTerms}
 use Rattle.circuits.proofs.Accepted.{variables-le, variables-wide, Accepted}
 use Rattle.circuits.proofs.Nodes.{node-fits, decision-free}
 use Rattle.circuits.proofs.Rows.{node-terms}
 use Rattle.circuits.proofs.Tables.{Fits}
 use Rattle.lists.specs.Capacity.{maxCapacity}
-use Rattle.settling.specs.Sides.{Sides, SidesAt, DecidedAt}
+use Rattle.settling.specs.Sides.{SidesAt}
 use Rattle.nodes.specs.Part.{nodeMade, Given}
 
 module _ {N n : ℕ} {w : List ℕ} (acc : Accepted N n w) where

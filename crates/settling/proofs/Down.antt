@@ -1,16 +1,16 @@
 -- Steps of the way down from a join to a least one inside it.
 use Prim.Native.Nat.{ℕ, _<_}
 use mathlib.Core.Path.{_≡_, sym, subst}
-use mathlib.Core.Bool.{Bool, true, false, _&&_}
+use mathlib.Core.Bool.{true, _&&_}
 use mathlib.Core.List.{List, List·Memᴰ}
 use lib.Dec.{T, ltb, ltb→lt}
 use lib.ListN.{length}
 use Rattle.masks.proofs.Tests.{and-l, and-r, along, is-true}
 use Rattle.terms.specs.Joins.{joins}
-use Rattle.terms.specs.Term.{literals, join, inside, IsTerm, termsOf}
+use Rattle.terms.specs.Term.{literals, join, inside, termsOf}
 use Rattle.terms.specs.declared.Term.{Term}
 use Rattle.terms.proofs.Terms.{inside-refl, inside-i}
-use Rattle.lists.specs.Scans.{termAt, shorter, shorterAt, Found}
+use Rattle.lists.specs.Scans.{termAt, shorter, Found}
 use Rattle.lists.specs.declared.Shorter.{Shorter}
 use Rattle.lists.specs.declared.Shorter.the-variants.{None, At}
 use Rattle.lists.proofs.Least.{shorter-down}

@@ -4,8 +4,7 @@ use mathlib.Core.Path.{_≡_, refl, sym, subst, _∙_}
 use mathlib.Core.Bool.{Bool, true, false}
 use mathlib.Core.Logic.{_⊎_, inl, inr, ⊎-elim}
 use mathlib.Core.List.{List, List·Memᴰ, List·Memᴰ·not-nil}
-use native.Mathlib.Nat.{le-trans, lt-of-lt-of-le}
-use native.Mathlib.Omega.{arith}
+use native.Mathlib.Nat.{lt-of-lt-of-le}
 use lib.ListN.{length}
 use Rattle.terms.specs.Lists.{insert, sort, Rising}
 use Rattle.terms.specs.Order.{before}
@@ -17,8 +16,7 @@ use Rattle.terms.proofs.Sorted.{insert-out, insert-in, insert-rising, sort-risi
 use Rattle.insertion.specs.Filled.{held, Filled}
 use Rattle.insertion.specs.declared.Kept.the-variants.{Count, Full}
 use Rattle.insertion.proofs.Again.{filled-length, filled-fits, filled-held, filled-then}
-use Rattle.insertion.proofs.Inserted.{length-insert}
-use Rattle.insertion.proofs.Parts.{Even, kept-count, kept-full, filled-none, filled-full, length-held}
+use Rattle.insertion.proofs.Parts.{Even, kept-full, filled-none, filled-full}
 use Rattle.settling.specs.Growth.{Front, Grew, Overflow}
 
 -- both slices are as long

@@ -1,26 +1,25 @@
 -- The least joins of two sides: what is one, and that each is listed once every pair is settled.
-use Prim.Native.Nat.{ℕ, zero, suc, _≤_, _<_, zero-le}
+use Prim.Native.Nat.{ℕ, suc, _<_}
 use mathlib.Core.Path.{_≡_, refl, sym, ap, ap₂, subst, _∙_}
-use mathlib.Core.Bool.{Bool, true, false, not, and-comm, true≢false}
+use mathlib.Core.Bool.{Bool, true, false, not, and-comm}
 use mathlib.Core.Logic.{_⊎_, inl, inr, ⊎-elim}
 use mathlib.Core.List.{List, [], _∷_, List·Memᴰ, List·Memᴰ·not-nil, List·Memᴰ·cases-cons}
 use native.Mathlib.Omega.{arith}
 use lib.Bits.{or-comm}
-use lib.Dec.{T, T-not, not-T}
+use lib.Dec.{T, T-not}
 use lib.ListN.{length}
 use Rattle.masks.proofs.Tests.{along, is-true, is-false, decide}
 use Rattle.terms.specs.Joins.{holdsOne, joins, holdsShorter, leastOf}
-use Rattle.terms.specs.Prime.{Implicant, Prime, Lists}
+use Rattle.terms.specs.Prime.{Prime, Lists}
 use Rattle.terms.specs.Term.{term, without, join, inside, conflict, IsTerm, termsOf}
 use Rattle.terms.specs.declared.Term.{Term}
 use Rattle.terms.proofs.Built.{joins-in, joins-out, conflict-free, joined-free, implicant-listed, least-lists, JoinOf}
 use Rattle.terms.proofs.Conjunctions.{conj, conj-i, conj-l}
 use Rattle.terms.proofs.Implicants.{least-same}
-use Rattle.terms.proofs.Sorted.{keep-out, keep-in, any-i}
-use Rattle.terms.proofs.Terms.{Inside, join-l, join-isTerm, inside-e, inside-i, inside-trans}
+use Rattle.terms.proofs.Sorted.{keep-out, keep-in}
+use Rattle.terms.proofs.Terms.{Inside, join-isTerm, inside-e, inside-i, inside-trans}
 use Rattle.lists.specs.Scans.{termAt, shorterJoin}
 use Rattle.lists.proofs.Least.{Terms, shorter-joins}
-use Rattle.lists.proofs.Parts.{term-in}
 use Rattle.settling.specs.Sides.{Sides, leastJoins, Covered, Settled}
 
 -- ---- terms by their places
@@ -36,7 +35,7 @@ place-of (p ∷ ps) (n ∷ ns) t e m = go (List·Memᴰ·cases-cons m) (place-of
     go (inl d) r = (0, omega arith, d)
     go (inr k) r = let (i, l, d) = r k in (suc i, omega arith, d)
 
-join-comm : (t u : Term) → join t u ≡ join u t
+pub join-comm : (t u : Term) → join t u ≡ join u t
 join-comm t u = ap₂ term (or-comm (t .positive) (u .positive)) (or-comm (t .negative) (u .negative))
 
 -- a listed term stays listed

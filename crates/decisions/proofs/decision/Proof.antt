@@ -1,6 +1,6 @@
 -- `decisions::decision` meets its contract: one side, the other, and all pairs.
 use Prim.Native.Nat.{ℕ}
-use mathlib.Core.Path.{_≡_, sym, subst, _∙_}
+use mathlib.Core.Path.{_≡_, subst, _∙_}
 use mathlib.Core.Bool.{Bool, true, false}
 use mathlib.Core.List.{List}
 use lib.ListN.{length}
@@ -130,7 +130,8 @@ told₃ p r e =
     (then₂ (two k)) (counts₂ k .listed) (then₃ p) (p .join-all .last .1 .1 .0)) e (p .join-all .ensures)
 
 list-side-requires : tie.Need-list-side-requires
-list-side-requires c κs = begun (c .before .before .before .before .before .before .before .before .before .before .before .before .before)
+list-side-requires c κs =
+    begun (c .before .before .before .before .before .before .before .before .before .before .before .before .before)
 
 enum-known-c : tie.Need-enum-known-c
 enum-known-c c = search needs
@@ -151,7 +152,9 @@ same-length-4 : tie.Need-same-length-4
 same-length-4 c = search needs
 
 returns : tie.Need-returns
-returns c = let p = c .before .before .before .before .before .before .before .before .before .before in over₁ (start₁ p .pre .0) (begun (start₁ p)) (told₁ p Over (c .enum-told .given .1))
+returns c =
+    let p = c .before .before .before .before .before .before .before .before .before .before in
+    over₁ (start₁ p .pre .0) (begun (start₁ p)) (told₁ p Over (c .enum-told .given .1))
 
 list-side-requires-2 : tie.Need-list-side-requires-2
 list-side-requires-2 c κs =
@@ -204,16 +207,24 @@ enum-told-3 : tie.Need-enum-told-3
 enum-told-3 c = search needs
 
 same-length-9 : tie.Need-same-length-9
-same-length-9 c = let p = c .before .before .before .before .before .before .before .before .before .before .before .before in p .join-all .kept .0 ∙ before-pairs (after₂ p) .0
+same-length-9 c =
+    let p = c .before .before .before .before .before .before .before .before .before .before .before .before in
+    p .join-all .kept .0 ∙ before-pairs (after₂ p) .0
 
 same-length-10 : tie.Need-same-length-10
-same-length-10 c = let p = c .before .before .before .before .before .before .before .before .before .before .before .before in p .join-all .kept .1 .0 ∙ before-pairs (after₂ p) .1
+same-length-10 c =
+    let p = c .before .before .before .before .before .before .before .before .before .before .before .before in
+    p .join-all .kept .1 .0 ∙ before-pairs (after₂ p) .1
 
 same-length-11 : tie.Need-same-length-11
-same-length-11 c = let p = c .before .before .before .before .before .before .before .before .before .before .before .before in p .join-all .kept .1 .1 .0 ∙ before-pairs (after₂ p) .2
+same-length-11 c =
+    let p = c .before .before .before .before .before .before .before .before .before .before .before .before in
+    p .join-all .kept .1 .1 .0 ∙ before-pairs (after₂ p) .2
 
 same-length-12 : tie.Need-same-length-12
-same-length-12 c = let p = c .before .before .before .before .before .before .before .before .before .before .before .before in p .join-all .kept .1 .1 .1 .0 ∙ before-pairs (after₂ p) .3
+same-length-12 c =
+    let p = c .before .before .before .before .before .before .before .before .before .before .before .before in
+    p .join-all .kept .1 .1 .1 .0 ∙ before-pairs (after₂ p) .3
 
 same-length-13 : tie.Need-same-length-13
 same-length-13 c = search needs
@@ -228,16 +239,24 @@ returns-3 c =
     (told₂ (two k) (To (counts₂ k)) (k .d .given .1)) (told₃ p Over (c .enum-told3 .given .1))
 
 same-length-14 : tie.Need-same-length-14
-same-length-14 c = let p = c .before .before .before .before .before .before .before .before .before .before .before .before .before in p .join-all .kept .0 ∙ before-pairs (after₂ p) .0
+same-length-14 c =
+    let p = c .before .before .before .before .before .before .before .before .before .before .before .before .before in
+    p .join-all .kept .0 ∙ before-pairs (after₂ p) .0
 
 same-length-15 : tie.Need-same-length-15
-same-length-15 c = let p = c .before .before .before .before .before .before .before .before .before .before .before .before .before in p .join-all .kept .1 .0 ∙ before-pairs (after₂ p) .1
+same-length-15 c =
+    let p = c .before .before .before .before .before .before .before .before .before .before .before .before .before in
+    p .join-all .kept .1 .0 ∙ before-pairs (after₂ p) .1
 
 same-length-16 : tie.Need-same-length-16
-same-length-16 c = let p = c .before .before .before .before .before .before .before .before .before .before .before .before .before in p .join-all .kept .1 .1 .0 ∙ before-pairs (after₂ p) .2
+same-length-16 c =
+    let p = c .before .before .before .before .before .before .before .before .before .before .before .before .before in
+    p .join-all .kept .1 .1 .0 ∙ before-pairs (after₂ p) .2
 
 same-length-17 : tie.Need-same-length-17
-same-length-17 c = let p = c .before .before .before .before .before .before .before .before .before .before .before .before .before in p .join-all .kept .1 .1 .1 .0 ∙ before-pairs (after₂ p) .3
+same-length-17 c =
+    let p = c .before .before .before .before .before .before .before .before .before .before .before .before .before in
+    p .join-all .kept .1 .1 .1 .0 ∙ before-pairs (after₂ p) .3
 
 same-length-18 : tie.Need-same-length-18
 same-length-18 c = search needs

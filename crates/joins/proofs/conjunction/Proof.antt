@@ -119,10 +119,14 @@ returns c =
     (a .loop .inv) (p .before .before .before .before .loop-test .taken) (then p) (then p) (told p Full (c .enum-told .given .1))
 
 add-k : tie.Need-add-k Inv-loop μ-loop
-add-k c = let p = c .before .before .before .before .before .before .before in omega (arith, p .before .before .before .before .loop-test .taken, start (turn p) .good)
+add-k c =
+    let p = c .before .before .before .before .before .before .before in
+    omega (arith, p .before .before .before .before .loop-test .taken, start (turn p) .good)
 
 loop-less : tie.Need-loop-less Inv-loop μ-loop
-loop-less c = let p = c .before .before .before .before .before .before .before in omega (arith, p .before .before .before .before .loop-test .taken)
+loop-less c =
+    let p = c .before .before .before .before .before .before .before in
+    omega (arith, p .before .before .before .before .loop-test .taken)
 
 loop-again : tie.Need-loop-again Inv-loop μ-loop
 loop-again c =

@@ -1,13 +1,12 @@
 -- `joins::join_each` meets its contract. The loop's invariant: the slices hold count terms in their front, and inserting what is left
 -- makes the whole list.
-use Prim.Native.Nat.{ℕ, _-_, _≤_, zero-le}
+use Prim.Native.Nat.{ℕ, _-_, _≤_}
 use mathlib.Core.Path.{_≡_, sym, subst, _∙_}
 use mathlib.Core.Bool.{Bool, true, false}
 use mathlib.Core.List.{List}
 use native.Mathlib.Omega.{arith}
 use lib.ListN.{length}
 use borrow.Author.Needs.{needs}
-use Rattle.terms.specs.Term.{termsOf}
 use Rattle.terms.specs.declared.Term.{Term}
 use Rattle.lists.specs.Scans.{termAt}
 use Rattle.insertion.specs.Filled.{bySign}
@@ -119,10 +118,14 @@ returns c =
     (a .loop .inv) (p .before .before .before .before .loop-test .taken) (then p) (then p) (told p Full (c .enum-told .given .1))
 
 add-k : tie.Need-add-k Inv-loop μ-loop
-add-k c = let p = c .before .before .before .before .before .before .before in omega (arith, p .before .before .before .before .loop-test .taken, start (turn p) .good)
+add-k c =
+    let p = c .before .before .before .before .before .before .before in
+    omega (arith, p .before .before .before .before .loop-test .taken, start (turn p) .good)
 
 loop-less : tie.Need-loop-less Inv-loop μ-loop
-loop-less c = let p = c .before .before .before .before .before .before .before in omega (arith, p .before .before .before .before .loop-test .taken)
+loop-less c =
+    let p = c .before .before .before .before .before .before .before in
+    omega (arith, p .before .before .before .before .loop-test .taken)
 
 loop-again : tie.Need-loop-again Inv-loop μ-loop
 loop-again c =

@@ -166,10 +166,12 @@ slice-aggregate-fill-part-5 : tie.Need-slice-aggregate-fill-part-5 Inv-loop μ-l
 slice-aggregate-fill-part-5 c = sym (c .before .before .before .before .before .before .before .before .before .before .loop .inv .2 .4)
 
 slice-aggregate-fill-part-6 : tie.Need-slice-aggregate-fill-part-6 Inv-loop μ-loop
-slice-aggregate-fill-part-6 c = sym (c .before .before .before .before .before .before .before .before .before .before .before .loop .inv .2 .5)
+slice-aggregate-fill-part-6 c =
+    sym (c .before .before .before .before .before .before .before .before .before .before .before .loop .inv .2 .5)
 
 slice-aggregate-fill-part-7 : tie.Need-slice-aggregate-fill-part-7 Inv-loop μ-loop
-slice-aggregate-fill-part-7 c = sym (c .before .before .before .before .before .before .before .before .before .before .before .before .loop .inv .2 .6)
+slice-aggregate-fill-part-7 c =
+    sym (c .before .before .before .before .before .before .before .before .before .before .before .before .loop .inv .2 .6)
 
 fill-part-requires : tie.Need-fill-part-requires Inv-loop μ-loop
 fill-part-requires c κs =

@@ -32,7 +32,8 @@ abbrev copy-ap : tie.After-slice-known13 → tie.After-copy
 copy-ap q = copy-an q .before .before .before .before .before
 
 abbrev start : tie.After-slice-known13 → tie.Start
-start q = copy-ap q .before .before .before .before .before .before .before .before .before .before .before .before .before .before .before
+start q =
+    copy-ap q .before .before .before .before .before .before .before .before .before .before .before .before .before .before .before
 
 -- each scratch slice has place for the terms that were copied, and its front holds just them
 long-ap : (q : tie.After-slice-known13) → start q .args .part .low .count ≤ length (copy-ap q .copy .last .0)
@@ -177,7 +178,8 @@ same-length-2 : tie.Need-same-length-2
 same-length-2 c = search needs
 
 same-length-3 : tie.Need-same-length-3
-same-length-3 c = copy-ap (c .before .before .before .before .before .before .before .before .before .before .before .before .before .before .before .before .before .before .before .before) .copy .kept .0
+same-length-3 c =
+    copy-ap (c .before .before .before .before .before .before .before .before .before .before .before .before .before .before .before .before .before .before .before .before) .copy .kept .0
 
 same-length-4 : tie.Need-same-length-4
 same-length-4 c = search needs

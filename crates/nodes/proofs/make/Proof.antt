@@ -33,7 +33,9 @@ made s g s′ k e h = subst (λ (z : Gate). Made s z s′ k) (sym e) h
 -- what is given for it
 given : (s : tie.Start) (g : Gate) → s .args .gate ≡ g
     → let x = s .args in Given (gateNode g) (x .ap .now) (x .an .now) (x .bp .now) (x .bn .now)
-given s g e = let x = s .args in subst (λ (z : Gate). Given (gateNode z) (x .ap .now) (x .an .now) (x .bp .now) (x .bn .now)) e (s .pre .0)
+given s g e =
+    let x = s .args in
+    subst (λ (z : Gate). Given (gateNode z) (x .ap .now) (x .an .now) (x .bp .now) (x .bn .now)) e (s .pre .0)
 
 abbrev start : tie.After-shared-slice-known4 → tie.Start
 start p = p .before .before .before .before .before .before .before .before .before

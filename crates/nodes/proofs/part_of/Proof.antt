@@ -1,7 +1,7 @@
 -- `nodes::part_of` meets its contract.
 use Prim.Native.Nat.{_≤_}
 use mathlib.Core.Path.{_≡_, ap, refl, _∙_}
-use native.Mathlib.Nat.{le-trans, le-of-eq, lt-of-le-of-lt}
+use native.Mathlib.Nat.{le-trans, le-of-eq}
 use native.Mathlib.Omega.{arith}
 use Rattle.masks.proofs.Numbers.{product-le}
 use Rattle.table.specs.Gate.{childAt}
@@ -50,7 +50,9 @@ terms-of-requires-2 c κs =
     (omega (arith, right-le h, s .pre .0 .0), s .pre .0 .1, omega (arith, right-le h, s .pre .0 .3))
 
 mul-t11 : tie.Need-mul-t11
-mul-t11 c = let s = start (c .before .before) in omega (arith, product-le (s .args .i) (s .args .capacity) maxNodes maxCapacity (omega (arith, s .pre .0 .0)) (s .pre .0 .1))
+mul-t11 c =
+    let s = start (c .before .before) in
+    omega (arith, product-le (s .args .i) (s .args .capacity) maxNodes maxCapacity (omega (arith, s .pre .0 .0)) (s .pre .0 .1))
 
 returns : tie.Need-returns
 returns c =

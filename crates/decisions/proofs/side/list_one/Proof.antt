@@ -1,5 +1,5 @@
 -- `decisions::side::list_one` meets its contract.
-use mathlib.Core.Path.{_≡_, sym, ap, subst, _∙_}
+use mathlib.Core.Path.{_≡_, ap, subst, _∙_}
 use mathlib.Core.Bool.{Bool}
 use mathlib.Core.List.{List}
 use Prim.Native.Nat.{ℕ}
@@ -12,7 +12,6 @@ use Rattle.insertion.specs.Filled.{bySign, held, Filled}
 use Rattle.insertion.specs.declared.Kept.{Kept}
 use Rattle.insertion.specs.declared.Kept.the-variants.{Count, Full}
 use Rattle.subsumption.specs.Ahead.{FoundInside}
-use Rattle.subsumption.specs.declared.Found.{Found}
 use Rattle.settling.specs.Growth.{Keeps}
 use Rattle.decisions.proofs.OneSide.{one-kept, one-extended, one-over}
 use borrow.Author.Needs.{needs}

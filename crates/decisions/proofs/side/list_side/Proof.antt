@@ -1,5 +1,5 @@
 -- `decisions::side::list_side` meets its contract. The invariant: the terms of the side up to k are listed.
-use Prim.Native.Nat.{ℕ, _-_, _≤_, _<_}
+use Prim.Native.Nat.{ℕ, _-_, _≤_}
 use mathlib.Core.Path.{_≡_, refl, sym, subst, _∙_}
 use mathlib.Core.Bool.{Bool, true, false}
 use mathlib.Core.List.{List}
@@ -74,7 +74,9 @@ rooms : (a : Loop) → length (a .loop .kept) ≡ length (start a .args .kept .n
 rooms a = a .loop .inv .0 .room ∙ sym (start a .pre .growing .room)
 
 loop-holds : tie.Need-loop-holds Inv-loop μ-loop
-loop-holds c = let s = c .before .before .before .before .before .before .before .before in (side-start (s .pre) (s .args .literal .sign), omega arith, refl)
+loop-holds c =
+    let s = c .before .before .before .before .before .before .before .before in
+    (side-start (s .pre) (s .args .literal .sign), omega arith, refl)
 
 term-at-requires : tie.Need-term-at-requires Inv-loop μ-loop
 term-at-requires c κs = let h = start (c .before) .pre .growing .at in omega (arith, c .loop-test .taken, h .even-low)
@@ -125,7 +127,9 @@ same-length : tie.Need-same-length Inv-loop μ-loop
 same-length c = let p = c .before .before .before .before .before .before .before .before in p .list-one .kept .0 ∙ sizes (turn p) true
 
 same-length-2 : tie.Need-same-length-2 Inv-loop μ-loop
-same-length-2 c = let p = c .before .before .before .before .before .before .before .before in p .list-one .kept .1 .0 ∙ sizes (turn p) false
+same-length-2 c =
+    let p = c .before .before .before .before .before .before .before .before in
+    p .list-one .kept .1 .0 ∙ sizes (turn p) false
 
 same-length-3 : tie.Need-same-length-3 Inv-loop μ-loop
 same-length-3 c = let p = c .before .before .before .before .before .before .before .before in p .list-one .kept .1 .1 .0 ∙ rooms (turn p)
@@ -134,7 +138,9 @@ same-length-4 : tie.Need-same-length-4 Inv-loop μ-loop
 same-length-4 c = let p = c .before .before .before .before .before .before .before .before in turn p .loop .inv .2
 
 returns : tie.Need-returns Inv-loop μ-loop
-returns c = let p = c .before .before .before .before .before .before .before .before in side-over (start (turn p) .pre) (start (turn p) .args .literal .sign) (turn p .loop .inv .0) (told p Over (c .enum-told .given .1))
+returns c =
+    let p = c .before .before .before .before .before .before .before .before in
+    side-over (start (turn p) .pre) (start (turn p) .args .literal .sign) (turn p .loop .inv .0) (told p Over (c .enum-told .given .1))
 
 hint-place-requires : tie.Need-hint-place-requires Inv-loop μ-loop
 hint-place-requires c κs = search needs
@@ -154,7 +160,8 @@ add-k c =
     omega (arith, c .before .before .before .before .before .before .before .before .before .before .before .before .before .before .before .before .before .before .before .before .before .before .before .loop-test .taken, start a .pre .growing .at .few-low)
 
 loop-less : tie.Need-loop-less Inv-loop μ-loop
-loop-less c = omega (arith, c .before .before .before .before .before .before .before .before .before .before .before .before .before .before .before .before .before .before .before .before .before .before .before .loop-test .taken)
+loop-less c =
+    omega (arith, c .before .before .before .before .before .before .before .before .before .before .before .before .before .before .before .before .before .before .before .before .before .before .before .loop-test .taken)
 
 loop-again : tie.Need-loop-again Inv-loop μ-loop
 loop-again c =

@@ -1,5 +1,5 @@
 -- `pairing::pairs::join_all` meets its contract. The invariant: the pairs of the rows before the next of each side are settled.
-use Prim.Native.Nat.{ℕ, _+_, _-_, _*_, _≤_, _<_}
+use Prim.Native.Nat.{ℕ, _+_, _-_, _*_}
 use mathlib.Core.Path.{_≡_, refl, sym, subst, _∙_}
 use mathlib.Core.Bool.{Bool, true, false}
 use mathlib.Core.Logic.{inl, inr}
@@ -60,7 +60,9 @@ rooms : (a : Loop) → length (a .loop .kept) ≡ length (start a .args .kept .n
 rooms a = a .loop .inv .0 .room ∙ sym (start a .pre .0 .room)
 
 loop-holds : tie.Need-loop-holds Inv-loop μ-loop
-loop-holds c = let s = c .before .before .before .before .before .before .before .before .before in (pairs-start (s .pre .0) _ _ refl refl, s .pre .1 .0, s .pre .1 .1)
+loop-holds c =
+    let s = c .before .before .before .before .before .before .before .before .before in
+    (pairs-start (s .pre .0) _ _ refl refl, s .pre .1 .0, s .pre .1 .1)
 
 step-requires : tie.Need-step-requires Inv-loop μ-loop
 step-requires c κs =
@@ -76,22 +78,34 @@ enum-told : tie.Need-enum-told Inv-loop μ-loop
 enum-told c = search needs
 
 same-length : tie.Need-same-length Inv-loop μ-loop
-same-length c = let p = c .before .before .before .before .before .before .before .before .before .before .before .before in p .step .kept .0 ∙ sizes (turn p) true
+same-length c =
+    let p = c .before .before .before .before .before .before .before .before .before .before .before .before in
+    p .step .kept .0 ∙ sizes (turn p) true
 
 same-length-2 : tie.Need-same-length-2 Inv-loop μ-loop
-same-length-2 c = let p = c .before .before .before .before .before .before .before .before .before .before .before .before in p .step .kept .1 .0 ∙ sizes (turn p) false
+same-length-2 c =
+    let p = c .before .before .before .before .before .before .before .before .before .before .before .before in
+    p .step .kept .1 .0 ∙ sizes (turn p) false
 
 same-length-3 : tie.Need-same-length-3 Inv-loop μ-loop
-same-length-3 c = let p = c .before .before .before .before .before .before .before .before .before .before .before .before in p .step .kept .1 .1 .0 ∙ rooms (turn p)
+same-length-3 c =
+    let p = c .before .before .before .before .before .before .before .before .before .before .before .before in
+    p .step .kept .1 .1 .0 ∙ rooms (turn p)
 
 same-length-4 : tie.Need-same-length-4 Inv-loop μ-loop
-same-length-4 c = let p = c .before .before .before .before .before .before .before .before .before .before .before .before in p .step .kept .1 .1 .1 .0 ∙ turn p .loop .inv .1 ∙ sym (start (turn p) .pre .1 .0)
+same-length-4 c =
+    let p = c .before .before .before .before .before .before .before .before .before .before .before .before in
+    p .step .kept .1 .1 .1 .0 ∙ turn p .loop .inv .1 ∙ sym (start (turn p) .pre .1 .0)
 
 same-length-5 : tie.Need-same-length-5 Inv-loop μ-loop
-same-length-5 c = let p = c .before .before .before .before .before .before .before .before .before .before .before .before in p .step .kept .1 .1 .1 .1 .0 ∙ turn p .loop .inv .2 ∙ sym (start (turn p) .pre .1 .1)
+same-length-5 c =
+    let p = c .before .before .before .before .before .before .before .before .before .before .before .before in
+    p .step .kept .1 .1 .1 .1 .0 ∙ turn p .loop .inv .2 ∙ sym (start (turn p) .pre .1 .1)
 
 returns : tie.Need-returns Inv-loop μ-loop
-returns c = let p = c .before .before .before .before .before .before .before .before .before .before .before .before in pairs-over (start (turn p) .pre .0) (turn p .loop .inv .0) (told p Over (c .enum-told .given .1))
+returns c =
+    let p = c .before .before .before .before .before .before .before .before .before .before .before .before in
+    pairs-over (start (turn p) .pre .0) (turn p .loop .inv .0) (told p Over (c .enum-told .given .1))
 
 loop-less : tie.Need-loop-less Inv-loop μ-loop
 loop-less c =

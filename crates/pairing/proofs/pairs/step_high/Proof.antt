@@ -1,5 +1,5 @@
 -- `pairing::pairs::step_high` meets its contract.
-use Prim.Native.Nat.{ℕ, _<_, _≤_}
+use Prim.Native.Nat.{ℕ}
 use mathlib.Core.Path.{_≡_, subst}
 use mathlib.Core.Bool.{Bool}
 use mathlib.Core.List.{List}
@@ -10,7 +10,7 @@ use Rattle.terms.specs.Term.{termsOf}
 use Rattle.terms.specs.declared.Term.{Term}
 use Rattle.lists.specs.Scans.{termAt}
 use Rattle.insertion.specs.Filled.{bySign}
-use Rattle.settling.specs.Growth.{Grown, Growing}
+use Rattle.settling.specs.Growth.{Grown}
 use Rattle.settling.specs.Sides.{leastJoins, SettledFrom}
 use Rattle.settling.specs.declared.counts.Growth.{Growth}
 use Rattle.settling.specs.declared.counts.Growth.the-variants.{To, Over}
@@ -24,7 +24,8 @@ add-hint-at : tie.Need-add-hint-at
 add-hint-at c = search needs
 
 abbrev start : tie.After-settle-row → tie.Start
-start p = p .before .before .before .before .before .before .before .before .before .before .before .before .before .before .before .before .before .before .before
+start p =
+    p .before .before .before .before .before .before .before .before .before .before .before .before .before .before .before .before .before .before .before
 
 abbrev then : tie.After-settle-row → Bool → List ℕ
 then p = bySign (p .settle-row .last .0) (p .settle-row .last .1 .0)
@@ -49,16 +50,20 @@ slice-relend-prefix-settle-row : tie.Need-slice-relend-prefix-settle-row
 slice-relend-prefix-settle-row c = search needs
 
 slice-aggregate-settle-row : tie.Need-slice-aggregate-settle-row
-slice-aggregate-settle-row c = simp length-take (omega (arith, c .before .before .before .before .before .before .before .before .before .before .before .before .before .before .before .before .before .pre .1 .0))
+slice-aggregate-settle-row c =
+    simp length-take (omega (arith, c .before .before .before .before .before .before .before .before .before .before .before .before .before .before .before .before .before .pre .1 .0))
 
 slice-relend-prefix-settle-row-2 : tie.Need-slice-relend-prefix-settle-row-2
 slice-relend-prefix-settle-row-2 c = search needs
 
 slice-aggregate-settle-row-2 : tie.Need-slice-aggregate-settle-row-2
-slice-aggregate-settle-row-2 c = simp length-take (omega (arith, c .before .before .before .before .before .before .before .before .before .before .before .before .before .before .before .before .before .before .pre .1 .1))
+slice-aggregate-settle-row-2 c =
+    simp length-take (omega (arith, c .before .before .before .before .before .before .before .before .before .before .before .before .before .before .before .before .before .before .pre .1 .1))
 
 settle-row-requires : tie.Need-settle-row-requires
-settle-row-requires c κs = let s = c .before .before .before .before .before .before .before .before .before .before .before .before .before .before .before .before .before .before in (growing-turned (recounted (s .pre .0 .growing) (s .args .turn .high .cost)), (s .pre .0 .high-left, simp length-take (omega (arith, s .pre .1 .1))))
+settle-row-requires c κs =
+    let s = c .before .before .before .before .before .before .before .before .before .before .before .before .before .before .before .before .before .before in
+    (growing-turned (recounted (s .pre .0 .growing) (s .args .turn .high .cost)), (s .pre .0 .high-left, simp length-take (omega (arith, s .pre .1 .1))))
 
 enum-known-c : tie.Need-enum-known-c
 enum-known-c c = search needs
@@ -82,10 +87,14 @@ same-length-5 : tie.Need-same-length-5
 same-length-5 c = search needs
 
 returns : tie.Need-returns
-returns c = let p = c .before .before .before .before .before .before .before .before .before .before .before .before in over-wider (least-turned (start p .pre .0 .growing .at .sides)) (told p Over (c .enum-told .given .1))
+returns c =
+    let p = c .before .before .before .before .before .before .before .before .before .before .before .before in
+    over-wider (least-turned (start p .pre .0 .growing .at .sides)) (told p Over (c .enum-told .given .1))
 
 add-t20 : tie.Need-add-t20
-add-t20 c = let q = start (c .before .before .before .before .before .before .before .before .before .before .before .before .before .before .before) .pre .0 in omega (arith, q .high-left, q .growing .at .few-high)
+add-t20 c =
+    let q = start (c .before .before .before .before .before .before .before .before .before .before .before .before .before .before .before) .pre .0 in
+    omega (arith, q .high-left, q .growing .at .few-high)
 
 same-length-6 : tie.Need-same-length-6
 same-length-6 c = search needs

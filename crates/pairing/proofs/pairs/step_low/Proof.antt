@@ -1,5 +1,5 @@
 -- `pairing::pairs::step_low` meets its contract.
-use Prim.Native.Nat.{ℕ, _<_, _≤_}
+use Prim.Native.Nat.{ℕ}
 use mathlib.Core.Path.{_≡_, subst}
 use mathlib.Core.Bool.{Bool}
 use mathlib.Core.List.{List}
@@ -10,7 +10,7 @@ use Rattle.terms.specs.Term.{termsOf}
 use Rattle.terms.specs.declared.Term.{Term}
 use Rattle.lists.specs.Scans.{termAt}
 use Rattle.insertion.specs.Filled.{bySign}
-use Rattle.settling.specs.Growth.{Grown, Growing}
+use Rattle.settling.specs.Growth.{Grown}
 use Rattle.settling.specs.Sides.{leastJoins, SettledFrom}
 use Rattle.settling.specs.declared.counts.Growth.{Growth}
 use Rattle.settling.specs.declared.counts.Growth.the-variants.{To, Over}
@@ -20,7 +20,8 @@ use Rattle.pairing.proofs.pairs.step_low.Statement.{statement}
 use Rattle.pairing.proofs.pairs.step_low.Tie as tie
 
 abbrev start : tie.After-settle-row → tie.Start
-start p = p .before .before .before .before .before .before .before .before .before .before .before .before .before .before .before .before .before .before .before
+start p =
+    p .before .before .before .before .before .before .before .before .before .before .before .before .before .before .before .before .before .before .before
 
 abbrev then : tie.After-settle-row → Bool → List ℕ
 then p = bySign (p .settle-row .last .0) (p .settle-row .last .1 .0)
@@ -60,7 +61,9 @@ part-settle-row-end-2 : tie.Need-part-settle-row-end-2
 part-settle-row-end-2 c = search needs
 
 settle-row-requires : tie.Need-settle-row-requires
-settle-row-requires c κs = let s = c .before .before .before .before .before .before .before .before .before .before .before .before .before .before .before .before .before .before in (recounted (s .pre .0 .growing) (s .args .turn .low .cost), (s .pre .0 .low-left, simp (length-take, length-drop) (omega (arith, s .pre .1 .1))))
+settle-row-requires c κs =
+    let s = c .before .before .before .before .before .before .before .before .before .before .before .before .before .before .before .before .before .before in
+    (recounted (s .pre .0 .growing) (s .args .turn .low .cost), (s .pre .0 .low-left, simp (length-take, length-drop) (omega (arith, s .pre .1 .1))))
 
 enum-known-c : tie.Need-enum-known-c
 enum-known-c c = search needs
@@ -84,10 +87,13 @@ same-length-5 : tie.Need-same-length-5
 same-length-5 c = search needs
 
 returns : tie.Need-returns
-returns c = told (c .before .before .before .before .before .before .before .before .before .before .before .before) Over (c .enum-told .given .1)
+returns c =
+    told (c .before .before .before .before .before .before .before .before .before .before .before .before) Over (c .enum-told .given .1)
 
 add-t28 : tie.Need-add-t28
-add-t28 c = let q = start (c .before .before .before .before .before .before .before .before .before .before .before .before .before) .pre .0 in omega (arith, q .low-left, q .growing .at .few-low)
+add-t28 c =
+    let q = start (c .before .before .before .before .before .before .before .before .before .before .before .before .before) .pre .0 in
+    omega (arith, q .low-left, q .growing .at .few-low)
 
 same-length-6 : tie.Need-same-length-6
 same-length-6 c = search needs

@@ -3,7 +3,6 @@ use mathlib.Core.Path.{_≡_, subst}
 use mathlib.Core.Bool.{Bool}
 use mathlib.Core.List.{List}
 use Prim.Native.Nat.{ℕ}
-use native.Mathlib.Omega.{arith}
 use Rattle.terms.specs.Lists.{insert}
 use Rattle.terms.specs.Order.{before}
 use Rattle.insertion.specs.Filled.{bySign, held, Filled}
@@ -79,7 +78,9 @@ same-length-7 : tie.Need-same-length-7
 same-length-7 c = search needs
 
 returns-3 : tie.Need-returns-3
-returns-3 c = let k = c .before .before in (told (k .before .before .before .before .before .before .before) (Count _) (k .before .c .given .1), still-none (k .before .before .before .before .before .before .before .before .before .before .before .before .before .pre .1))
+returns-3 c =
+    let k = c .before .before in
+    (told (k .before .before .before .before .before .before .before) (Count _) (k .before .c .given .1), still-none (k .before .before .before .before .before .before .before .before .before .before .before .before .before .pre .1))
 
 same-length-8 : tie.Need-same-length-8
 same-length-8 c = search needs
@@ -88,7 +89,9 @@ same-length-9 : tie.Need-same-length-9
 same-length-9 c = search needs
 
 returns-4 : tie.Need-returns-4
-returns-4 c = let k = c .before in (told (k .before .before .before .before .before .before .before) (Count _) (k .before .c .given .1), still-none (k .before .before .before .before .before .before .before .before .before .before .before .before .before .pre .1))
+returns-4 c =
+    let k = c .before in
+    (told (k .before .before .before .before .before .before .before) (Count _) (k .before .c .given .1), still-none (k .before .before .before .before .before .before .before .before .before .before .before .before .before .pre .1))
 
 pub keep-spec : {M : Type 1} → statement M
 keep-spec =

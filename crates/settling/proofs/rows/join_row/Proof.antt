@@ -1,15 +1,14 @@
 -- `settling::rows::join_row` meets its contract. The invariant: the pairs of the row up to j are settled.
-use Prim.Native.Nat.{ℕ, _+_, _-_, _*_, _≤_, _<_}
+use Prim.Native.Nat.{ℕ, _-_}
 use mathlib.Core.Path.{_≡_, refl, sym, ap, subst, _∙_}
 use mathlib.Core.Bool.{Bool, true, false}
 use mathlib.Core.List.{List}
 use native.Mathlib.Omega.{arith}
 use lib.ListN.{length, length-replicate}
-use Rattle.terms.specs.Term.{conflict, termsOf}
+use Rattle.terms.specs.Term.{termsOf}
 use Rattle.terms.specs.declared.Term.{Term}
-use Rattle.lists.specs.Capacity.{maxCapacity}
 use Rattle.lists.specs.Scans.{termAt}
-use Rattle.insertion.specs.Filled.{bySign, held}
+use Rattle.insertion.specs.Filled.{bySign}
 use Rattle.settling.specs.Growth.{Grown}
 use Rattle.settling.specs.Sides.{leastJoins, Settled}
 use Rattle.settling.specs.Tries.{Tries}
@@ -129,10 +128,14 @@ enum-told : tie.Need-enum-told Inv-loop μ-loop
 enum-told c = search needs
 
 same-length : tie.Need-same-length Inv-loop μ-loop
-same-length c = let p = c .before .before .before .before .before .before .before .before in p .settle .kept .0 ∙ sizes (turn (tried p)) true
+same-length c =
+    let p = c .before .before .before .before .before .before .before .before in
+    p .settle .kept .0 ∙ sizes (turn (tried p)) true
 
 same-length-2 : tie.Need-same-length-2 Inv-loop μ-loop
-same-length-2 c = let p = c .before .before .before .before .before .before .before .before in p .settle .kept .1 .0 ∙ sizes (turn (tried p)) false
+same-length-2 c =
+    let p = c .before .before .before .before .before .before .before .before in
+    p .settle .kept .1 .0 ∙ sizes (turn (tried p)) false
 
 same-length-3 : tie.Need-same-length-3 Inv-loop μ-loop
 same-length-3 c =
@@ -147,7 +150,9 @@ same-length-5 : tie.Need-same-length-5 Inv-loop μ-loop
 same-length-5 c = search needs
 
 returns : tie.Need-returns Inv-loop μ-loop
-returns c = let p = c .before .before .before .before .before .before .before .before in so-far-over (start (turn (tried p)) .pre .0) (turn (tried p) .loop .inv .0) (told p Over (c .enum-told .given .1))
+returns c =
+    let p = c .before .before .before .before .before .before .before .before in
+    so-far-over (start (turn (tried p)) .pre .0) (turn (tried p) .loop .inv .0) (told p Over (c .enum-told .given .1))
 
 slice-aggregate-spread-new : tie.Need-slice-aggregate-spread-new Inv-loop μ-loop
 slice-aggregate-spread-new c = search needs
@@ -170,7 +175,9 @@ add-j c =
     omega (arith, q .before .before .before .before .before .loop-test .taken, start (turn q) .pre .0 .at .few-high)
 
 loop-less : tie.Need-loop-less Inv-loop μ-loop
-loop-less c = let q = tried (c .before .before .before .before .before .before .before .before .before .before .before .before .before .before .before .before .before) in omega (arith, q .before .before .before .before .before .loop-test .taken)
+loop-less c =
+    let q = tried (c .before .before .before .before .before .before .before .before .before .before .before .before .before .before .before .before .before) in
+    omega (arith, q .before .before .before .before .before .loop-test .taken)
 
 loop-again : tie.Need-loop-again Inv-loop μ-loop
 loop-again c =

@@ -1,13 +1,12 @@
 -- `settling::rows::settle` meets its contract.
-use mathlib.Core.Path.{_≡_, refl, sym, ap₂, subst, _∙_}
+use mathlib.Core.Path.{_≡_, sym, ap₂, subst, _∙_}
 use mathlib.Core.Logic.{inr}
 use mathlib.Core.List.{List, List·Memᴰ}
 use Rattle.terms.specs.Joins.{joins}
 use Rattle.terms.specs.Term.{join, termsOf}
 use Rattle.terms.specs.declared.Term.{Term}
 use Rattle.lists.specs.Scans.{termAt}
-use Rattle.insertion.specs.Filled.{bySign}
-use Rattle.settling.specs.Sides.{leastJoins, Covered, Settled}
+use Rattle.settling.specs.Sides.{leastJoins, Covered}
 use Rattle.settling.proofs.Down.{low-in, high-in}
 use Rattle.settling.proofs.Growth.{grew-none}
 use Rattle.settling.proofs.Grows.{grown-so}

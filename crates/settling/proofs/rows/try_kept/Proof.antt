@@ -1,6 +1,5 @@
 -- `settling::rows::try_kept` meets its contract.
-use mathlib.Core.Path.{_≡_, refl, sym, _∙_}
-use native.Mathlib.Omega.{arith}
+use mathlib.Core.Path.{refl, sym, _∙_}
 use Rattle.settling.proofs.Looks.{tries-conflict, tries-kept, tries-not}
 use borrow.Author.Needs.{needs}
 use Rattle.settling.proofs.rows.try_kept.Statement.{statement}
@@ -54,7 +53,8 @@ hint-at-requires-2 : tie.Need-hint-at-requires-2
 hint-at-requires-2 c κs = search needs
 
 covers-requires-2 : tie.Need-covers-requires-2
-covers-requires-2 c κs = c .before .before .before .before .before .before .before .before .before .before .before .before .before .before .before .before .before .before .before .before .before .before .before .before .before .before .before .before .before .pre .1
+covers-requires-2 c κs =
+    c .before .before .before .before .before .before .before .before .before .before .before .before .before .before .before .before .before .before .before .before .before .before .before .before .before .before .before .before .before .pre .1
 
 same-length-3 : tie.Need-same-length-3
 same-length-3 c = search needs

@@ -4,7 +4,6 @@ use mathlib.Core.Path.{_≡_, sym, ap₂, subst, _∙_}
 use mathlib.Core.Bool.{true}
 use mathlib.Core.List.{List·Memᴰ}
 use native.Mathlib.Omega.{arith}
-use lib.ListN.{length}
 use Rattle.terms.specs.Joins.{joins}
 use Rattle.terms.specs.Term.{literals, join, inside, termsOf}
 use Rattle.terms.specs.declared.Term.{Term}

@@ -1,4 +1,4 @@
 pub mod Inserted
-pub mod Carried
+pub mod Shifted
 pub mod Parts
 pub mod Again

@@ -1,2 +1,3 @@
 pub mod OneSide
 pub mod Whole
+pub mod Fits

@@ -100,7 +100,7 @@ pub record SideDone (x : ℕ) (sign : Bool) (ap an bp bn : List ℕ) (s₀ : Boo
     (c : Counts) (k : ℕ) : Type 0 where
   pub grew : Grew (sideTerms x sign (termsOf ap an) (termsOf bp bn)) s₀ count₀ s (c .listed)
   pub keeps : KeptIn (leastJoins (termsOf ap an) (termsOf bp bn)) (held s (c .listed)) kept (c .kept)
-  pub room : length kept ≡ 2 * maxCapacity
+  pub room : length kept ≤ 2 * maxCapacity
   pub done : (i : ℕ) → i < k → ListsOne x sign (termsOf bp bn) (termAt ap an i) (held s (c .listed))
 
 module _ {x : ℕ} {ap an bp bn : List ℕ} {s₀ : Bool → List ℕ} {kept₀ : List ℕ} {c₀ : Counts} (g : Extending x ap an bp bn s₀ kept₀ c₀)
@@ -134,7 +134,7 @@ module _ {x : ℕ} {ap an bp bn : List ℕ} {s₀ : Bool → List ℕ} {kept₀ 
     pub side-next : {s′ : Bool → List ℕ} {kept′ : List ℕ} {d : Counts}
         → Grew (sideTerms x sign (termsOf ap an) (termsOf bp bn)) s (c .listed) s′ (d .listed)
         → KeptIn (leastJoins (termsOf ap an) (termsOf bp bn)) (held s′ (d .listed)) kept′ (d .kept)
-        → length kept′ ≡ 2 * maxCapacity
+        → length kept′ ≤ 2 * maxCapacity
         → ListsOne x sign (termsOf bp bn) (termAt ap an k) (held s′ (d .listed))
         → SideDone x sign ap an bp bn s₀ (c₀ .listed) s′ kept′ d (k + 1)
     side-next {s′} {kept′} {d} more keeps room one =

@@ -1,5 +1,5 @@
 -- The terms of both sides and all least joins make the decision's list.
-use Prim.Native.Nat.{ℕ, _*_, zero-le}
+use Prim.Native.Nat.{ℕ, _*_, _≤_, zero-le}
 use mathlib.Core.Path.{_≡_, refl, sym, subst}
 use mathlib.Core.Bool.{Bool, true, false}
 use mathlib.Core.Logic.{⊎-elim}
@@ -57,7 +57,7 @@ module _ {x : ℕ} {ap an bp bn : List ℕ} (h : DecidedAt x ap an bp bn) where
       (List·Memᴰ·append-cases (extended x true a b) m)
 
   -- ---- the first side
-  pub first : (s₀ : Bool → List ℕ) (kept₀ : List ℕ) → length (s₀ false) ≡ length (s₀ true) → length kept₀ ≡ 2 * maxCapacity
+  pub first : (s₀ : Bool → List ℕ) (kept₀ : List ℕ) → length (s₀ false) ≡ length (s₀ true) → length kept₀ ≤ 2 * maxCapacity
       → Extending x ap an bp bn s₀ kept₀ (record { listed = 0; kept = 0; cost = 0 })
   first s₀ kept₀ ev room =
       record {

@@ -11,6 +11,7 @@ ghost use Rattle.settling.specs.Growth.{Grown};
 ghost use Rattle.decisions.specs.Extended.{Extending, sideTerms, ListsOne, ListsSide};
 ghost use Rattle.settling.specs.Sides.{leastJoins};
 use insertion::Kept;
+use lists::MAX_CAPACITY;
 use settling::counts::Counts;
 use settling::counts::Growth;
 use settling::counts::keep;
@@ -75,7 +76,7 @@ fn list_one(
 fn guess_after(found: Found, guess: usize) -> usize {
     match found {
         Found::At(k) => {
-            if k < 4096 {
+            if k < MAX_CAPACITY as usize {
                 return k + 1;
             }
             guess
@@ -92,11 +93,11 @@ fn hint_of(before: usize, after: usize) -> usize {
     hints::NONE as usize
 }
 
-// The place of the hint of a side's term: those of the low side, whose sign is no, stand first.
-fn hint_place(sign: bool, k: usize) -> usize {
+// The place of the hint of a side's term: those of the low side, whose sign is no, stand in the first half.
+fn hint_place(hints: &[u16], sign: bool, k: usize) -> usize {
     if sign {
-        if k < 4096 {
-            return 4096 + k;
+        if k < MAX_CAPACITY as usize {
+            return hints.len() / 2 + k;
         }
     }
     k
@@ -146,11 +147,8 @@ pub fn list_side(
         ) else {
             return Growth::Over;
         };
-        hints::set_hint(
-            hints,
-            hint_place(literal.sign, k),
-            hint_of(counts.kept, next.kept),
-        );
+        let place = hint_place(hints, literal.sign, k);
+        hints::set_hint(hints, place, hint_of(counts.kept, next.kept));
         guess = guess_after(found, guess);
         counts = next;
         k += 1;

@@ -5,27 +5,31 @@ ghost use mathlib.Core.Path.{_≡_};
 ghost use mathlib.Core.Bool.{true};
 ghost use Prim.Native.Nat.{_+_, _*_, _≤_, _<_};
 ghost use lib.ListN.{length};
+ghost use Rattle.masks.specs.Mask.{width};
 ghost use Rattle.terms.specs.Term.{inside};
+ghost use Rattle.lists.specs.Capacity.{maxCapacity};
 ghost use Rattle.hints.specs.Kept.{keptAt, Put};
+ghost use Rattle.hints.specs.Scratch.{wordBits, maxWords, wordsFor, columnVariables, literals, HasColumns, maxCost};
+use lists::MAX_CAPACITY;
 use terms::Term;
 
 // The place of no kept term.
 pub const NONE: u16 = 4096;
 
-// How many terms a list may have.
-pub const ROWS: usize = 4096;
+// How many terms stand in one word, a bit each.
+pub const WORD_BITS: usize = 64;
 
-// How many words their bits take.
-pub const WORDS: usize = 64;
+// How many words the bits of the longest list take.
+pub const MAX_WORDS: usize = 64;
 
 // How many variables have columns.
 const VARIABLES: usize = 40;
 
 // How many columns there are: one for each literal, those of the positive literals first.
-pub const LITERALS: usize = 80;
+pub const LITERALS: usize = 2 * VARIABLES;
 
-// How many words the columns take.
-pub const COLUMNS: usize = 5120;
+// What a row costs at most: 1, and all words for each kept term.
+pub const MAX_COST: usize = 1 + MAX_WORDS * (MAX_CAPACITY as usize);
 
 // Kept term k.
 pub fn kept_at(kept: &[u64], k: usize) -> Term
@@ -79,15 +83,15 @@ pub fn set_hint(hints: &mut [u16], k: usize, place: usize)
 
 // How many words the bits of n terms take.
 pub fn words_for(n: usize) -> usize
-    requires { ⌜ n ≤ 4096 ⌝ }
-    ensures { λ r. ⌜ (r ≤ 64) × (n ≤ 64 * r) ⌝ }
+    requires { ⌜ n ≤ maxCapacity ⌝ }
+    ensures { λ r. ⌜ (r ≡ wordsFor n) × (r ≤ maxWords) × (n ≤ wordBits * r) ⌝ }
 {
-    (n + 63) / 64
+    (n + 63) / WORD_BITS
 }
 
 // The lowest variable of a mask; 64 where there is none.
 fn lowest(mask: u64) -> usize
-    ensures { λ r. ⌜ r ≤ 64 ⌝ }
+    ensures { λ r. ⌜ r ≤ width ⌝ }
 {
     u64::trailing_zeros(mask) as usize
 }
@@ -102,8 +106,8 @@ fn without_lowest(mask: u64) -> u64
 
 // Where the column of literal l starts.
 fn column_of(words: usize, l: usize) -> usize
-    requires { ⌜ (words ≤ 64) × (l < 80) ⌝ }
-    ensures { λ r. ⌜ r + words ≤ 5120 ⌝ }
+    requires { ⌜ (words ≤ maxWords) × (l < literals) ⌝ }
+    ensures { λ r. ⌜ r + words ≤ literals * words ⌝ }
 {
     words * l
 }
@@ -119,7 +123,7 @@ fn clear(entries: &mut [u64], n: usize)
 
 // Sets a bit of entry `word` of a column for each variable of the mask: the literals of one sign start at column `first`.
 fn mark(columns: &mut [u64], words: usize, first: usize, word: usize, bit: u64, mask: u64)
-    requires { ⌜ (length (now columns) ≡ 5120) × (words ≤ 64) × (first ≤ 40) × (word < words) ⌝ }
+    requires { ⌜ HasColumns words (now columns) × (words ≤ maxWords) × (first ≤ columnVariables) × (word < words) ⌝ }
 {
     let mut rest = mask;
     while rest != 0 {
@@ -136,21 +140,22 @@ fn mark(columns: &mut [u64], words: usize, first: usize, word: usize, bit: u64, 
 // The columns of a list: bit i % 64 of entry words * l + i / 64 says that term i has literal l, which is the positive one of variable l
 // below 40 and from there on the negative one of variable l - 40.
 pub fn fill_columns(columns: &mut [u64], positives: &[u64], negatives: &[u64])
-    requires { ⌜ (length (now columns) ≡ 5120) × (length (now negatives) ≡ length (now positives)) × (length (now positives) ≤ 4096) ⌝ }
+    requires { ⌜ HasColumns (wordsFor (length (now positives))) (now columns) × (length (now negatives) ≡ length (now positives))
+        × (length (now positives) ≤ maxCapacity) ⌝ }
     ensures { λ _. ⌜ length (now (columns .exit)) ≡ length (now (columns .entry)) ⌝ }
 {
     let words = words_for(positives.len());
     clear(columns, LITERALS * words);
     for i in 0..positives.len() {
-        let bit = 1u64 << (i % 64);
-        mark(columns, words, 0, i / 64, bit, positives[i]);
-        mark(columns, words, VARIABLES, i / 64, bit, negatives[i]);
+        let bit = 1u64 << (i % WORD_BITS);
+        mark(columns, words, 0, i / WORD_BITS, bit, positives[i]);
+        mark(columns, words, VARIABLES, i / WORD_BITS, bit, negatives[i]);
     }
 }
 
 // Leaves the bits of the terms that have the column's literal; says whether there are any.
-fn narrow(bits: &mut [u64; WORDS], column: &[u64]) -> bool
-    requires { ⌜ length (now column) ≤ 64 ⌝ }
+fn narrow(bits: &mut [u64; MAX_WORDS], column: &[u64]) -> bool
+    requires { ⌜ length (now column) ≤ maxWords ⌝ }
 {
     let mut any = 0;
     for w in 0..column.len() {
@@ -163,13 +168,13 @@ fn narrow(bits: &mut [u64; WORDS], column: &[u64]) -> bool
 
 // Leaves the bits of the terms that have the literals of one sign of the mask's variables; says whether there are any.
 fn narrow_all(
-    bits: &mut [u64; WORDS],
+    bits: &mut [u64; MAX_WORDS],
     columns: &[u64],
     words: usize,
     first: usize,
     mask: u64,
 ) -> bool
-    requires { ⌜ (length (now columns) ≡ 5120) × (words ≤ 64) × (first ≤ 40) ⌝ }
+    requires { ⌜ HasColumns words (now columns) × (words ≤ maxWords) × (first ≤ columnVariables) ⌝ }
 {
     let mut rest = mask;
     while rest != 0 {
@@ -189,7 +194,7 @@ fn narrow_all(
 
 // Makes a place the hint of the terms of one word of bits, whose first term is `first`.
 fn set_hints(hints: &mut [u16], first: usize, bits: u64, place: usize)
-    requires { ⌜ first ≤ 4096 ⌝ }
+    requires { ⌜ first ≤ maxCapacity ⌝ }
 {
     let mut rest = bits;
     while rest != 0 {
@@ -199,10 +204,10 @@ fn set_hints(hints: &mut [u16], first: usize, bits: u64, place: usize)
 }
 
 // Makes the bits a copy of those left.
-fn copy(bits: &mut [u64; WORDS], left: &[u64])
-    requires { ⌜ length (now left) ≡ 64 ⌝ }
+fn copy(bits: &mut [u64; MAX_WORDS], left: &[u64])
+    requires { ⌜ length (now left) ≡ maxWords ⌝ }
 {
-    for w in 0..WORDS {
+    for w in 0..MAX_WORDS {
         bits[w] = left[w];
     }
 }
@@ -211,11 +216,11 @@ fn copy(bits: &mut [u64; WORDS], left: &[u64])
 fn settle(
     hints: &mut [u16],
     left: &mut [u64],
-    bits: &[u64; WORDS],
+    bits: &[u64; MAX_WORDS],
     words: usize,
     place: usize,
 ) -> bool
-    requires { ⌜ (words ≤ 64) × (length (now left) ≡ 64) ⌝ }
+    requires { ⌜ (words ≤ maxWords) × (length (now left) ≡ maxWords) ⌝ }
 {
     let mut rest = 0;
     for w in 0..words {
@@ -223,7 +228,7 @@ fn settle(
         let more = left[w] & !found;
         left[w] = more;
         rest = rest | more;
-        set_hints(hints, 64 * w, found, place);
+        set_hints(hints, WORD_BITS * w, found, place);
     }
     rest != 0
 }
@@ -238,11 +243,11 @@ pub fn spread(
     d: Term,
     place: usize,
 ) -> bool
-    requires { ⌜ (words ≤ 64) × (length (now left) ≡ 64) × (length (now columns) ≡ 5120) ⌝ }
+    requires { ⌜ (words ≤ maxWords) × (length (now left) ≡ maxWords) × HasColumns words (now columns) ⌝ }
     ensures { λ _. ⌜ (length (now (hints .exit)) ≡ length (now (hints .entry)))
         × (length (now (left .exit)) ≡ length (now (left .entry))) ⌝ }
 {
-    let mut bits = [0u64; WORDS];
+    let mut bits = [0u64; MAX_WORDS];
     copy(&mut bits, left);
     if !narrow_all(&mut bits, columns, words, 0, d.positive) {
         return true;
@@ -283,8 +288,8 @@ fn gather(
     from: usize,
     t: Term,
 ) -> Term
-    requires { ⌜ (2 * count ≤ length (now kept)) × (length (now left) ≡ 64) ⌝ }
-    requires { ⌜ (length (now bn) ≡ length (now bp)) × (length (now bp) ≤ 4096) ⌝ }
+    requires { ⌜ (2 * count ≤ length (now kept)) × (length (now left) ≡ maxWords) ⌝ }
+    requires { ⌜ (length (now bn) ≡ length (now bp)) × (length (now bp) ≤ maxCapacity) ⌝ }
 {
     clear(left, words_for(bp.len()));
     let mut all = t;
@@ -294,7 +299,7 @@ fn gather(
             negative: bn[k],
         };
         if is_open(kept, count, hint_at(hints, k), t, u) {
-            left[k / 64] = left[k / 64] | (1u64 << (k % 64));
+            left[k / WORD_BITS] = left[k / WORD_BITS] | (1u64 << (k % WORD_BITS));
             all = terms::join(all, u);
         }
     }
@@ -313,9 +318,9 @@ fn spread_kept(
     all: Term,
     t: Term,
 ) -> usize
-    requires { ⌜ (words ≤ 64) × (length (now left) ≡ 64) × (length (now columns) ≡ 5120) ⌝ }
-    requires { ⌜ (count ≤ 4096) × (2 * count ≤ length (now kept)) ⌝ }
-    ensures { λ r. ⌜ r ≤ 1 + 64 * 4096 ⌝ }
+    requires { ⌜ (words ≤ maxWords) × (length (now left) ≡ maxWords) × HasColumns words (now columns) ⌝ }
+    requires { ⌜ (count ≤ maxCapacity) × (2 * count ≤ length (now kept)) ⌝ }
+    ensures { λ r. ⌜ r ≤ maxCost ⌝ }
 {
     let mut cost = 1;
     for k in 0..count {
@@ -343,9 +348,9 @@ pub fn renew(
     from: usize,
     t: Term,
 ) -> usize
-    requires { ⌜ (count ≤ 4096) × (2 * count ≤ length (now kept)) × (length (now left) ≡ 64) × (length (now columns) ≡ 5120) ⌝ }
-    requires { ⌜ (length (now bn) ≡ length (now bp)) × (length (now bp) ≤ 4096) ⌝ }
-    ensures { λ r. ⌜ (r ≤ 1 + 64 * 4096) × (length (now (hints .exit)) ≡ length (now (hints .entry)))
+    requires { ⌜ (count ≤ maxCapacity) × (2 * count ≤ length (now kept)) × (length (now left) ≡ maxWords) ⌝ }
+    requires { ⌜ HasColumns (wordsFor (length (now bp))) (now columns) × (length (now bn) ≡ length (now bp)) × (length (now bp) ≤ maxCapacity) ⌝ }
+    ensures { λ r. ⌜ (r ≤ maxCost) × (length (now (hints .exit)) ≡ length (now (hints .entry)))
         × (length (now (left .exit)) ≡ length (now (left .entry))) ⌝ }
 {
     let words = words_for(bp.len());

@@ -74,9 +74,6 @@ fn fill_all(
     let mut an = [0u64; MAX_CAPACITY as usize];
     let mut bp = [0u64; MAX_CAPACITY as usize];
     let mut bn = [0u64; MAX_CAPACITY as usize];
-    let mut kept = [0u64; 8192];
-    let mut hints = [0u16; 8192];
-    let mut columns = [0u64; 10240];
     let mut i = 0;
     while i < n {
         let part = nodes::part_of(words, counts, i, capacity);
@@ -87,9 +84,6 @@ fn fill_all(
             &mut an,
             &mut bp,
             &mut bn,
-            &mut kept,
-            &mut hints,
-            &mut columns,
             part,
         ) else {
             return false;

@@ -4,6 +4,7 @@ use mathlib.Core.Path.{_≡_}
 use mathlib.Core.Bool.{Bool, true, false, cond}
 use mathlib.Core.List.{List, [], _∷_, _++_}
 use lib.ListN.{length, take, drop, getD}
+use Rattle.masks.specs.Mask.{width}
 use Rattle.table.specs.Gate.{childAt, gateNode}
 use Rattle.table.specs.Node.{Node, constant, literal, decision, conjunction, unknown}
 use Rattle.terms.specs.Joins.{joins, decisionTerms}
@@ -27,7 +28,7 @@ nodeMade unknown l k = []
 -- what is taken for granted of its children's terms: they are prime implicants in order, a decision's variable is in none of them
 abbrev pub Given : Node → List ℕ → List ℕ → List ℕ → List ℕ → Type 0
 Given (constant b) ap an bp bn = Unit {0}
-Given (literal b x) ap an bp bn = x < 64
+Given (literal b x) ap an bp bn = x < width
 Given (decision x a b) ap an bp bn = DecidedAt x ap an bp bn
 Given (conjunction cs) ap an bp bn = SidesAt ap an bp bn
 Given unknown ap an bp bn = Unit {0}

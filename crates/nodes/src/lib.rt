@@ -4,6 +4,7 @@ ghost use mathlib.Core.Bool.{cond};
 ghost use mathlib.Core.List.{[], _∷_};
 ghost use Prim.Native.Nat.{_+_, _*_, _≤_, _<_};
 ghost use lib.ListN.{length, take, drop, getD};
+ghost use Rattle.masks.specs.Mask.{width};
 ghost use Rattle.table.specs.Gate.{gateNode, childAt};
 ghost use Rattle.table.specs.Node.{nodeAt, nodeWords, maxNodes};
 ghost use Rattle.terms.specs.Term.{empty, extend, termsOf};
@@ -29,7 +30,7 @@ fn constant(positives: &mut [u64], negatives: &mut [u64], value: bool) -> Kept
 
 // Makes the term of a literal.
 fn literal(positives: &mut [u64], negatives: &mut [u64], sign: bool, x: u32) -> Kept
-    requires { ⌜ (x < 64) × (length (now negatives) ≡ length (now positives)) ⌝ }
+    requires { ⌜ (x < width) × (length (now negatives) ≡ length (now positives)) ⌝ }
     ensures { λ r. ⌜ Filled (extend empty x sign ∷ []) (bySign (now (positives .entry)) (now (negatives .entry)))
         (bySign (now (positives .exit)) (now (negatives .exit))) r ⌝ }
 {
@@ -37,13 +38,10 @@ fn literal(positives: &mut [u64], negatives: &mut [u64], sign: bool, x: u32) -> 
     insertion::insert(positives, negatives, 0, terms::extend(empty, x, sign))
 }
 
-// Makes the terms of a node in the two slices, from the terms a and b of its children; kept, hints and columns are scratch.
+// Makes the terms of a node in the two slices, from the terms a and b of its children.
 fn make(
     positives: &mut [u64],
     negatives: &mut [u64],
-    kept: &mut [u64],
-    hints: &mut [u16],
-    columns: &mut [u64],
     ap: &[u64],
     an: &[u64],
     bp: &[u64],
@@ -51,9 +49,8 @@ fn make(
     gate: Gate,
 ) -> Kept
     requires { ⌜ Given (gateNode gate) (now ap) (now an) (now bp) (now bn) ⌝ }
-    requires { ⌜ (length (now negatives) ≡ length (now positives)) × (length (now kept) ≡ 2 * maxCapacity)
-        × (length (now hints) ≡ 2 * maxCapacity) × (length (now columns) ≡ 10240)
-        × (length (now an) ≡ length (now ap)) × (length (now bn) ≡ length (now bp)) ⌝ }
+    requires { ⌜ (length (now negatives) ≡ length (now positives)) × (length (now an) ≡ length (now ap))
+        × (length (now bn) ≡ length (now bp)) ⌝ }
     ensures { λ r. ⌜ Filled
         (nodeMade (gateNode gate) (termsOf (now (ap .entry)) (now (an .entry))) (termsOf (now (bp .entry)) (now (bn .entry))))
         (bySign (now (positives .entry)) (now (negatives .entry)))
@@ -62,18 +59,7 @@ fn make(
     match gate {
         Gate::Constant(value) => constant(positives, negatives, value),
         Gate::Literal(sign, x) => literal(positives, negatives, sign, x),
-        Gate::Decision(x, _, _) => decisions::decision(
-            positives,
-            negatives,
-            kept,
-            hints,
-            columns,
-            ap,
-            an,
-            bp,
-            bn,
-            x,
-        ),
+        Gate::Decision(x, _, _) => decisions::decision(positives, negatives, ap, an, bp, bn, x),
         Gate::Conjunction(_, _) => joins::conjunction(positives, negatives, ap, an, bp, bn),
         Gate::Unknown => Kept::Count(0),
     }
@@ -106,8 +92,8 @@ pub struct Part {
     pub high: Terms,
 }
 
-// Makes the terms of a node in its part. Its children's terms are copied to the fronts of ap, an, bp and bn; these, kept, hints and columns are
-// scratch, and what it holds before and after is left free.
+// Makes the terms of a node in its part. Its children's terms are copied to the fronts of ap, an, bp and bn; what these hold before and
+// after is left free.
 pub fn fill_part(
     positives: &mut [u64],
     negatives: &mut [u64],
@@ -115,9 +101,6 @@ pub fn fill_part(
     an: &mut [u64],
     bp: &mut [u64],
     bn: &mut [u64],
-    kept: &mut [u64],
-    hints: &mut [u16],
-    columns: &mut [u64],
     part: Part,
 ) -> Kept
     requires { ⌜ Given (gateNode (part .gate)) (take (part .low .count) (drop (part .low .from) (now positives)))
@@ -128,8 +111,7 @@ pub fn fill_part(
         × (part .low .from + part .capacity ≤ length (now positives)) × (part .high .from + part .capacity ≤ length (now positives))
         × (part .at + part .capacity ≤ length (now positives)) × (length (now negatives) ≡ length (now positives)) ⌝ }
     requires { ⌜ (length (now ap) ≡ maxCapacity) × (length (now an) ≡ maxCapacity) × (length (now bp) ≡ maxCapacity)
-        × (length (now bn) ≡ maxCapacity) × (length (now kept) ≡ 2 * maxCapacity) × (length (now hints) ≡ 2 * maxCapacity)
-        × (length (now columns) ≡ 10240) ⌝ }
+        × (length (now bn) ≡ maxCapacity) ⌝ }
     ensures { λ r. ⌜ PartFilled
         (nodeMade (gateNode (part .gate)) (termsFrom (bySign (now (positives .entry)) (now (negatives .entry))) (part .low .from) (part .low .count))
         (termsFrom (bySign (now (positives .entry)) (now (negatives .entry))) (part .high .from) (part .high .count))) (part .at) (part .capacity)
@@ -150,9 +132,6 @@ pub fn fill_part(
     make(
         &mut positives[at..end],
         &mut negatives[at..end],
-        kept,
-        hints,
-        columns,
         &ap[..ca],
         &an[..ca],
         &bp[..cb],

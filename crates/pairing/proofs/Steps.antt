@@ -111,7 +111,7 @@ module _ {ap an bp bn : List ℕ} (h : SidesAt ap an bp bn) {low high : ℕ} {l 
 pub record PairsDone (ap an bp bn : List ℕ) (s₀ : Bool → List ℕ) (count₀ : ℕ) (s : Bool → List ℕ) (kept : List ℕ) (t : Turn) : Type 0 where
   pub grew : Grew (leastJoins (termsOf ap an) (termsOf bp bn)) s₀ count₀ s (t .listed)
   pub keeps : KeptIn (leastJoins (termsOf ap an) (termsOf bp bn)) (held s (t .listed)) kept (t .kept)
-  pub room : length kept ≡ 2 * maxCapacity
+  pub room : length kept ≤ 2 * maxCapacity
   pub within-low : t .low .at ≤ length ap
   pub within-high : t .high .at ≤ length bp
   pub settles : (i j : ℕ) → i < length ap → j < length bp → (i < t .low .at) ⊎ (j < t .high .at)
@@ -150,7 +150,7 @@ module _ {ap an bp bn : List ℕ} {s₀ : Bool → List ℕ} {kept₀ : List ℕ
     pub pairs-next : {s′ : Bool → List ℕ} {kept′ : List ℕ} {u : Turn}
         → Grew (leastJoins (termsOf ap an) (termsOf bp bn)) s (t .listed) s′ (u .listed)
         → KeptIn (leastJoins (termsOf ap an) (termsOf bp bn)) (held s′ (u .listed)) kept′ (u .kept)
-        → length kept′ ≡ 2 * maxCapacity
+        → length kept′ ≤ 2 * maxCapacity
         → Stepped (leastJoins (termsOf ap an) (termsOf bp bn)) ap an bp bn (t .low .at) (t .high .at) (held s′ (u .listed)) (u .low .at)
         (u .high .at)
         → PairsDone ap an bp bn s₀ (c₀ .listed) s′ kept′ u

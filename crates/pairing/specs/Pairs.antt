@@ -1,5 +1,5 @@
 -- A step through the pairs of two sides. No public contract rests on these.
-use Prim.Native.Nat.{ℕ, _*_, _<_}
+use Prim.Native.Nat.{ℕ, _*_, _≤_, _<_}
 use mathlib.Core.Path.{_≡_}
 use mathlib.Core.Bool.{Bool}
 use mathlib.Core.List.{List}
@@ -24,6 +24,6 @@ pub record Paired (ap an bp bn : List ℕ) (s : Bool → List ℕ) (kept : List 
 abbrev pub Turns : List ℕ → List ℕ → List ℕ → List ℕ → (Bool → List ℕ) → Turn → (Bool → List ℕ) → List ℕ → Turned → Type 0
 Turns ap an bp bn s t s′ kept′ (Next u) =
     let least : List Term = leastJoins (termsOf ap an) (termsOf bp bn) in
-    Grew least s (t .listed) s′ (u .listed) × KeptIn least (held s′ (u .listed)) kept′ (u .kept) × (length kept′ ≡ 2 * maxCapacity)
+    Grew least s (t .listed) s′ (u .listed) × KeptIn least (held s′ (u .listed)) kept′ (u .kept) × (length kept′ ≤ 2 * maxCapacity)
     × Stepped least ap an bp bn (t .low .at) (t .high .at) (held s′ (u .listed)) (u .low .at) (u .high .at)
 Turns ap an bp bn s t s′ kept′ Over = Overflow (leastJoins (termsOf ap an) (termsOf bp bn)) s (t .listed)

@@ -5,6 +5,7 @@ ghost use lib.ListN.{length};
 ghost use Rattle.terms.specs.Term.{termsOf};
 ghost use Rattle.lists.specs.Capacity.{maxCapacity};
 ghost use Rattle.lists.specs.Scans.{termAt};
+ghost use Rattle.hints.specs.Scratch.{HasHalves, maxCost};
 ghost use Rattle.insertion.specs.Filled.{bySign};
 ghost use Rattle.settling.specs.Growth.{Growing, Grown};
 ghost use Rattle.pairing.specs.Pairs.{Paired, Turns};
@@ -36,12 +37,12 @@ pub enum Turned {
 
 // A cost that can be multiplied by a number of rows.
 fn bounded(cost: usize) -> usize
-    ensures { λ r. ⌜ r ≤ 262145 ⌝ }
+    ensures { λ r. ⌜ r ≤ maxCost ⌝ }
 {
-    if cost < 262145 {
+    if cost < hints::MAX_COST {
         return cost;
     }
-    262145
+    hints::MAX_COST
 }
 
 // The rows that are left, m on the low side and n on the high one, cost less on the low side.
@@ -65,7 +66,7 @@ fn step_low(
     turn: Turn,
 ) -> Turned
     requires { ⌜ Paired (now ap) (now an) (now bp) (now bn) (bySign (now positives) (now negatives)) (now kept) turn ⌝ }
-    requires { ⌜ (length (now hints) ≡ 2 * maxCapacity) × (length (now columns) ≡ 10240) ⌝ }
+    requires { ⌜ HasHalves (length (now ap)) (length (now bp)) (now columns) ⌝ }
     ensures { λ r. ⌜ Turns (now (ap .entry)) (now (an .entry)) (now (bp .entry)) (now (bn .entry))
         (bySign (now (positives .entry)) (now (negatives .entry))) turn
         (bySign (now (positives .exit)) (now (negatives .exit))) (now (kept .exit)) r ⌝ }
@@ -86,12 +87,14 @@ fn step_low(
         made: high.made,
         hint,
     };
+    let half = hints.len() / 2;
+    let middle = columns.len() / 2;
     let Growth::To(c) = settle_row(
         positives,
         negatives,
         kept,
-        &mut hints[4096..8192],
-        &mut columns[5120..10240],
+        &mut hints[half..],
+        &mut columns[middle..],
         ap,
         an,
         bp,
@@ -130,7 +133,7 @@ fn step_high(
     turn: Turn,
 ) -> Turned
     requires { ⌜ Paired (now ap) (now an) (now bp) (now bn) (bySign (now positives) (now negatives)) (now kept) turn ⌝ }
-    requires { ⌜ (length (now hints) ≡ 2 * maxCapacity) × (length (now columns) ≡ 10240) ⌝ }
+    requires { ⌜ HasHalves (length (now ap)) (length (now bp)) (now columns) ⌝ }
     ensures { λ r. ⌜ Turns (now (ap .entry)) (now (an .entry)) (now (bp .entry)) (now (bn .entry))
         (bySign (now (positives .entry)) (now (negatives .entry))) turn
         (bySign (now (positives .exit)) (now (negatives .exit))) (now (kept .exit)) r ⌝ }
@@ -138,7 +141,9 @@ fn step_high(
     let low = turn.low;
     let high = turn.high;
     let at = high.at;
-    let hint = hints::hint_at(hints, 4096 + at);
+    let half = hints.len() / 2;
+    let middle = columns.len() / 2;
+    let hint = hints::hint_at(hints, half + at);
     let counts = Counts {
         listed: turn.listed,
         kept: turn.kept,
@@ -155,8 +160,8 @@ fn step_high(
         positives,
         negatives,
         kept,
-        &mut hints[..4096],
-        &mut columns[..5120],
+        &mut hints[..half],
+        &mut columns[..middle],
         bp,
         bn,
         ap,
@@ -195,7 +200,7 @@ fn step(
     turn: Turn,
 ) -> Turned
     requires { ⌜ Paired (now ap) (now an) (now bp) (now bn) (bySign (now positives) (now negatives)) (now kept) turn ⌝ }
-    requires { ⌜ (length (now hints) ≡ 2 * maxCapacity) × (length (now columns) ≡ 10240) ⌝ }
+    requires { ⌜ HasHalves (length (now ap)) (length (now bp)) (now columns) ⌝ }
     ensures { λ r. ⌜ Turns (now (ap .entry)) (now (an .entry)) (now (bp .entry)) (now (bn .entry))
         (bySign (now (positives .entry)) (now (negatives .entry))) turn
         (bySign (now (positives .exit)) (now (negatives .exit))) (now (kept .exit)) r ⌝ }
@@ -244,7 +249,7 @@ pub fn join_all(
     start: Counts,
 ) -> Growth
     requires { ⌜ Growing (now ap) (now an) (now bp) (now bn) (bySign (now positives) (now negatives)) (now kept) start ⌝ }
-    requires { ⌜ (length (now hints) ≡ 2 * maxCapacity) × (length (now columns) ≡ 10240) ⌝ }
+    requires { ⌜ HasHalves (length (now ap)) (length (now bp)) (now columns) ⌝ }
     ensures { λ r. ⌜ Grown (leastJoins (termsOf (now (ap .entry)) (now (an .entry))) (termsOf (now (bp .entry)) (now (bn .entry))))
         (leastJoins (termsOf (now (ap .entry)) (now (an .entry))) (termsOf (now (bp .entry)) (now (bn .entry))))
         (λ l. AllSettled (leastJoins (termsOf (now (ap .entry)) (now (an .entry))) (termsOf (now (bp .entry)) (now (bn .entry)))) l

@@ -32,7 +32,7 @@ module _ {ap an bp bn : List ℕ} {s : Bool → List ℕ} {kept : List ℕ} {c :
       let (grew, listed) = grew-insert (g .front) t (least-terms (g .at .sides) t n) m (k .0) in (
         grew,
         kept-in (g .keeps) (k .1) (grew .keeps) listed n,
-        k .1 .same ∙ g .room,
+        rw (k .1 .same) (g .room),
         h _ listed,
       )
   kept-grown s′ kept′ done Over h k = over-insert (g .front) t (least-terms (g .at .sides) t n) m k
@@ -49,7 +49,7 @@ pub record SoFar (ap an bp bn : List ℕ) (t : Term) (from : ℕ) (s₀ : Bool �
     (c : Counts) (j : ℕ) : Type 0 where
   pub grew : Grew (leastJoins (termsOf ap an) (termsOf bp bn)) s₀ count₀ s (c .listed)
   pub keeps : KeptIn (leastJoins (termsOf ap an) (termsOf bp bn)) (held s (c .listed)) kept (c .kept)
-  pub room : length kept ≡ 2 * maxCapacity
+  pub room : length kept ≤ 2 * maxCapacity
   pub done : (i : ℕ) → from ≤ i → i < j
       → Settled (leastJoins (termsOf ap an) (termsOf bp bn)) (held s (c .listed)) t (termAt bp bn i)
 
@@ -76,7 +76,7 @@ module _ {ap an bp bn : List ℕ} {s₀ : Bool → List ℕ} {kept₀ : List ℕ
     pub so-far-next : {s′ : Bool → List ℕ} {kept′ : List ℕ} {d : Counts}
         → Grew (leastJoins (termsOf ap an) (termsOf bp bn)) s (c .listed) s′ (d .listed)
         → KeptIn (leastJoins (termsOf ap an) (termsOf bp bn)) (held s′ (d .listed)) kept′ (d .kept)
-        → length kept′ ≡ 2 * maxCapacity
+        → length kept′ ≤ 2 * maxCapacity
         → Settled (leastJoins (termsOf ap an) (termsOf bp bn)) (held s′ (d .listed)) t (termAt bp bn j)
         → SoFar ap an bp bn t from s₀ (c₀ .listed) s′ kept′ d (j + 1)
     so-far-next {s′} {kept′} {d} more keeps room one =

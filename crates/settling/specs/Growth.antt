@@ -56,11 +56,11 @@ pub record Growing (ap an bp bn : List ℕ) (s : Bool → List ℕ) (kept : List
   pub at : SidesAt ap an bp bn
   pub front : Front (at .sides .variables) s (c .listed)
   pub keeps : KeptIn (leastJoins (termsOf ap an) (termsOf bp bn)) (held s (c .listed)) kept (c .kept)
-  pub room : length kept ≡ 2 * maxCapacity
+  pub room : length kept ≤ 2 * maxCapacity
 
 -- it was to grow by some terms of `more` so that `done` holds of it; the kept terms are of `least`
 abbrev pub Grown : List Term → List Term → (List Term → Type 0) → (Bool → List ℕ) → ℕ → (Bool → List ℕ) → List ℕ → Growth → Type 0
 Grown more least done s count s′ kept′ (To d) =
-    Grew more s count s′ (d .listed) × KeptIn least (held s′ (d .listed)) kept′ (d .kept) × (length kept′ ≡ 2 * maxCapacity)
+    Grew more s count s′ (d .listed) × KeptIn least (held s′ (d .listed)) kept′ (d .kept) × (length kept′ ≤ 2 * maxCapacity)
     × done (held s′ (d .listed))
 Grown more least done s count s′ kept′ Over = Overflow more s count

@@ -1,14 +1,15 @@
 -- `hints::copy` meets its contract.
 use Prim.Native.Nat.{_-_, _≤_}
 use borrow.Author.Needs.{needs}
+use Rattle.hints.specs.Scratch.{maxWords}
 use Rattle.hints.proofs.copy.Statement.{statement}
 use Rattle.hints.proofs.copy.Tie as tie
 
 abbrev Inv-loop : tie.InvT-loop
-Inv-loop bits₀ left w₀ bits w = w ≤ 64
+Inv-loop bits₀ left w₀ bits w = w ≤ maxWords
 
 abbrev μ-loop : tie.MeasureT-loop
-μ-loop bits₀ left w₀ bits w = 64 - w
+μ-loop bits₀ left w₀ bits w = maxWords - w
 
 loop-holds : tie.Need-loop-holds Inv-loop μ-loop
 loop-holds c = search needs

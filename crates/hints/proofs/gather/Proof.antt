@@ -4,11 +4,12 @@ use mathlib.Core.Logic.{⊎-elim}
 use mathlib.Core.Path.{_≡_, ap, _∙_}
 use lib.ListN.{length, length-set}
 use borrow.Author.Needs.{needs}
+use Rattle.hints.specs.Scratch.{maxWords}
 use Rattle.hints.proofs.gather.Statement.{statement}
 use Rattle.hints.proofs.gather.Tie as tie
 
 abbrev Inv-loop : tie.InvT-loop
-Inv-loop left₀ hints kept count bp bn from t all₀ k₀ k-end left all k = (length left ≡ 64) × (k-end ≡ length bp)
+Inv-loop left₀ hints kept count bp bn from t all₀ k₀ k-end left all k = (length left ≡ maxWords) × (k-end ≡ length bp)
 
 abbrev μ-loop : tie.MeasureT-loop
 μ-loop left₀ hints kept count bp bn from t all₀ k₀ k-end left all k = k-end - k

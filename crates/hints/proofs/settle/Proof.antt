@@ -3,11 +3,12 @@ use Prim.Native.Nat.{_-_, _≤_}
 use mathlib.Core.Path.{_≡_}
 use lib.ListN.{length}
 use borrow.Author.Needs.{needs}
+use Rattle.hints.specs.Scratch.{maxWords}
 use Rattle.hints.proofs.settle.Statement.{statement}
 use Rattle.hints.proofs.settle.Tie as tie
 
 abbrev Inv-loop : tie.InvT-loop
-Inv-loop hints₀ left₀ bits words place rest₀ w₀ hints left rest w = (w ≤ words) × (length left ≡ 64) × (length hints ≡ length hints₀)
+Inv-loop hints₀ left₀ bits words place rest₀ w₀ hints left rest w = (w ≤ words) × (length left ≡ maxWords) × (length hints ≡ length hints₀)
 
 abbrev μ-loop : tie.MeasureT-loop
 μ-loop hints₀ left₀ bits words place rest₀ w₀ hints left rest w = words - w

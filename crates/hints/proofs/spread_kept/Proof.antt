@@ -1,16 +1,17 @@
--- `hints::spread_kept` meets its contract. The loop's invariant: each kept term passed cost 64 at most.
+-- `hints::spread_kept` meets its contract. The loop's invariant: each kept term passed cost all words at most.
 use Prim.Native.Nat.{_+_, _*_, _-_, _≤_}
 use mathlib.Core.Logic.{⊎-elim}
 use mathlib.Core.Path.{_≡_, ap, _∙_}
 use native.Mathlib.Omega.{arith}
 use lib.ListN.{length}
 use borrow.Author.Needs.{needs}
+use Rattle.hints.specs.Scratch.{maxWords}
 use Rattle.hints.proofs.spread_kept.Statement.{statement}
 use Rattle.hints.proofs.spread_kept.Tie as tie
 
 abbrev Inv-loop : tie.InvT-loop
 Inv-loop hints₀ left₀ columns kept count words all t cost₀ k₀ hints left cost k =
-    (k ≤ count) × (cost ≤ 1 + 64 * k) × (length hints ≡ length hints₀) × (length left ≡ 64)
+    (k ≤ count) × (cost ≤ 1 + maxWords * k) × (length hints ≡ length hints₀) × (length left ≡ maxWords)
 
 abbrev μ-loop : tie.MeasureT-loop
 μ-loop hints₀ left₀ columns kept count words all t cost₀ k₀ hints left cost k = count - k

@@ -10,10 +10,11 @@ use native.Mathlib.Numerals.{add-one}
 use lib.ListN.{length, set, length-replicate}
 use borrow.Author.Needs.{needs}
 use Rattle.table.specs.Gate.{childAt}
-use Rattle.table.specs.Node.{nodeAt}
+use Rattle.table.specs.Node.{nodeAt, maxNodes}
 use Rattle.terms.specs.declared.Term.{Term}
 use Rattle.circuits.proofs.Accepted.{accepted-e, Accepted}
 use Rattle.circuits.proofs.Largest.{no-more}
+use Rattle.lists.specs.Capacity.{maxCapacity}
 use Rattle.insertion.specs.Filled.{bySign}
 use Rattle.insertion.specs.declared.Kept.{Kept}
 use Rattle.insertion.specs.declared.Kept.the-variants.{Count, Full}
@@ -29,13 +30,12 @@ use Rattle.listing.proofs.fill_all.Statement.{statement}
 use Rattle.listing.proofs.fill_all.Tie as tie
 
 abbrev Inv-loop : tie.InvT-loop
-Inv-loop ps₀ ns₀ cs₀ words variables n capacity ap₀ an₀ bp₀ bn₀ kept₀ hints₀ columns₀ i₀ ps ns cs ap an bp bn kept hints columns i =
+Inv-loop ps₀ ns₀ cs₀ words variables n capacity ap₀ an₀ bp₀ bn₀ i₀ ps ns cs ap an bp bn i =
     (i ≤ n) × State variables words capacity n i (bySign ps ns) cs
-    × ((length ap ≡ 4096) × (length an ≡ 4096) × (length bp ≡ 4096) × (length bn ≡ 4096) × (length kept ≡ 8192) × (length hints ≡ 8192)
-    × (length columns ≡ 10240))
+    × ((length ap ≡ maxCapacity) × (length an ≡ maxCapacity) × (length bp ≡ maxCapacity) × (length bn ≡ maxCapacity))
 
 abbrev μ-loop : tie.MeasureT-loop
-μ-loop ps₀ ns₀ cs₀ words variables n capacity ap₀ an₀ bp₀ bn₀ kept₀ hints₀ columns₀ i₀ ps ns cs ap an bp bn kept hints columns i = n - i
+μ-loop ps₀ ns₀ cs₀ words variables n capacity ap₀ an₀ bp₀ bn₀ i₀ ps ns cs ap an bp bn i = n - i
 
 abbrev Start : Type 0
 Start = tie.Start Inv-loop μ-loop
@@ -57,17 +57,17 @@ abbrev then : Called → Bool → List ℕ
 then p = bySign (p .fill-part .last .0) (p .fill-part .last .1 .0)
 
 abbrev turn : Called → Loop
-turn p = p .before .before .before .before .before .before .before .before .before .before .before .before .before
+turn p = p .before .before .before .before .before .before .before .before .before .before
 
 -- the call of a turn that goes on, and of one that ends the loop
 abbrev kept : tie.After-c Inv-loop μ-loop → Called
-kept c = c .before .before .before .before .before .before .before .before .before .before .before .before .before
+kept c = c .before .before .before .before .before .before .before .before .before .before
 
 abbrev full : tie.After-enum-told Inv-loop μ-loop → Called
-full c = c .before .before .before .before .before .before .before .before .before .before .before .before .before
+full c = c .before .before .before .before .before .before .before .before .before .before
 
 tested : (p : Called) → turn p .loop .i < start (turn p) .args .n
-tested p = p .before .before .before .before .before .before .before .before .before .before .before .before .loop-test .taken
+tested p = p .before .before .before .before .before .before .before .before .before .loop-test .taken
 
 accepts : (s : Start) → let x = s .args in Accepted (x .variables) (x .n) (x .words .now)
 accepts s = let x = s .args in accepted-e (x .variables) (x .n) (x .words .now) (s .pre .0 .0)
@@ -102,7 +102,7 @@ told p r e =
     let s = start a in
     let x = s .args in
     let i : ℕ = a .loop .i in
-    let q = p .before .before .before .before .before .before .before .before .before .before in
+    let q = p .before .before .before .before .before .before .before in
     let part = q .part-of .result in
     let is = q .part-of .ensures in
     let made = part-made (accepts s) (a .loop .inv .1) (tested p) (s .pre .0 .1) part is in
@@ -129,12 +129,11 @@ loop-holds : tie.Need-loop-holds Inv-loop μ-loop
 loop-holds c =
     let s = c .before .before .before .before in
     let x = s .args in
-    let fresh = length-replicate {A = ℕ} 4096 0 in
-    let twice = length-replicate {A = ℕ} 8192 0 in (
+    let fresh = length-replicate {A = ℕ} maxCapacity 0 in (
       search needs,
       state-start (x .variables) (x .words .now) (x .capacity) (x .n) (bySign (x .positives .now) (x .negatives .now)) (x .counts .now)
           (λ b. elim b [ true ↦ s .pre .1 .0 | false ↦ s .pre .1 .1 ]) (s .pre .0 .2),
-      (fresh, fresh, fresh, fresh, twice, twice, length-replicate {A = ℕ} 10240 0),
+      (fresh, fresh, fresh, fresh),
     )
 
 part-of-requires : tie.Need-part-of-requires Inv-loop μ-loop
@@ -145,7 +144,7 @@ part-of-requires c κs =
     let x = s .args in
     let acc = accepts s in
     let lt : a .loop .i < x .n = w .loop-test .taken in
-    let most : x .n ≤ 1024 = nodes-le acc in
+    let most : x .n ≤ maxNodes = nodes-le acc in
     let enough : 4 * x .n ≤ length (x .words .now) = words-enough acc in
     let long : length (a .loop .counts) ≡ x .n = counted a in
     ((omega arith, s .pre .0 .1, omega arith, omega arith), children-below acc (a .loop .i) lt)
@@ -162,20 +161,9 @@ slice-aggregate-fill-part-3 c = sym (c .before .before .before .before .before .
 slice-aggregate-fill-part-4 : tie.Need-slice-aggregate-fill-part-4 Inv-loop μ-loop
 slice-aggregate-fill-part-4 c = sym (c .before .before .before .before .before .before .before .before .before .loop .inv .2 .3)
 
-slice-aggregate-fill-part-5 : tie.Need-slice-aggregate-fill-part-5 Inv-loop μ-loop
-slice-aggregate-fill-part-5 c = sym (c .before .before .before .before .before .before .before .before .before .before .loop .inv .2 .4)
-
-slice-aggregate-fill-part-6 : tie.Need-slice-aggregate-fill-part-6 Inv-loop μ-loop
-slice-aggregate-fill-part-6 c =
-    sym (c .before .before .before .before .before .before .before .before .before .before .before .loop .inv .2 .5)
-
-slice-aggregate-fill-part-7 : tie.Need-slice-aggregate-fill-part-7 Inv-loop μ-loop
-slice-aggregate-fill-part-7 c =
-    sym (c .before .before .before .before .before .before .before .before .before .before .before .before .loop .inv .2 .6)
-
 fill-part-requires : tie.Need-fill-part-requires Inv-loop μ-loop
 fill-part-requires c κs =
-    let q = c .before .before .before .before .before .before .before .before .before in
+    let q = c .before .before .before .before .before .before in
     let w = q .before .before in
     let a = w .before in
     let s = start a in
@@ -285,9 +273,6 @@ loop-again c =
         p .fill-part .kept .1 .1 .1 .0 ∙ a .loop .inv .2 .1,
         p .fill-part .kept .1 .1 .1 .1 .0 ∙ a .loop .inv .2 .2,
         p .fill-part .kept .1 .1 .1 .1 .1 .0 ∙ a .loop .inv .2 .3,
-        p .fill-part .kept .1 .1 .1 .1 .1 .1 .0 ∙ a .loop .inv .2 .4,
-        p .fill-part .kept .1 .1 .1 .1 .1 .1 .1 .0 ∙ a .loop .inv .2 .5,
-        p .fill-part .kept .1 .1 .1 .1 .1 .1 .1 .1 .0 ∙ a .loop .inv .2 .6,
       ),
     )
 
@@ -322,9 +307,6 @@ fill-all-spec =
     slice-aggregate-fill-part-2
     slice-aggregate-fill-part-3
     slice-aggregate-fill-part-4
-    slice-aggregate-fill-part-5
-    slice-aggregate-fill-part-6
-    slice-aggregate-fill-part-7
     fill-part-requires
     enum-known-c
     enum-told

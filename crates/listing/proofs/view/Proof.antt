@@ -5,6 +5,7 @@ use native.Mathlib.Omega.{arith}
 use borrow.Author.Needs.{needs}
 use borrow.Author.Tests.{le-leb, lt-leb, lt-ltb, le-ltb}
 use Rattle.masks.proofs.Numbers.{product-le}
+use Rattle.lists.specs.Capacity.{maxCapacity}
 use Rattle.listing.proofs.view.Statement.{statement}
 use Rattle.listing.proofs.view.Tie as tie
 
@@ -48,12 +49,12 @@ returns-3 c =
 mul-start : tie.Need-mul-start
 mul-start c =
     let x = c .before .before .before .args in
-    omega (arith, product-le (x .node) (x .capacity) 1023 4096 (omega arith) (omega arith))
+    omega (arith, product-le (x .node) (x .capacity) 1023 maxCapacity (omega arith) (omega arith))
 
 add-end : tie.Need-add-end
 add-end c =
     let x = c .before .before .before .args in
-    omega (arith, product-le (x .node) (x .capacity) 1023 4096 (omega arith) (omega arith))
+    omega (arith, product-le (x .node) (x .capacity) 1023 maxCapacity (omega arith) (omega arith))
 
 sub-result-4 : tie.Need-sub-result-4
 sub-result-4 c = search needs

@@ -19,45 +19,45 @@ use Rattle.nodes.proofs.fill_part.Statement.{statement}
 use Rattle.nodes.proofs.fill_part.Tie as tie
 
 -- the four copies
-abbrev copy-bn : tie.After-slice-known13 → tie.After-copy4
+abbrev copy-bn : tie.After-slice-known10 → tie.After-copy4
 copy-bn q = q .before .before
 
-abbrev copy-bp : tie.After-slice-known13 → tie.After-copy3
+abbrev copy-bp : tie.After-slice-known10 → tie.After-copy3
 copy-bp q = copy-bn q .before .before .before .before .before
 
-abbrev copy-an : tie.After-slice-known13 → tie.After-copy2
+abbrev copy-an : tie.After-slice-known10 → tie.After-copy2
 copy-an q = copy-bp q .before .before .before .before .before
 
-abbrev copy-ap : tie.After-slice-known13 → tie.After-copy
+abbrev copy-ap : tie.After-slice-known10 → tie.After-copy
 copy-ap q = copy-an q .before .before .before .before .before
 
-abbrev start : tie.After-slice-known13 → tie.Start
+abbrev start : tie.After-slice-known10 → tie.Start
 start q =
-    copy-ap q .before .before .before .before .before .before .before .before .before .before .before .before .before .before .before
+    copy-ap q .before .before .before .before .before .before .before .before .before .before .before .before
 
 -- each scratch slice has place for the terms that were copied, and its front holds just them
-long-ap : (q : tie.After-slice-known13) → start q .args .part .low .count ≤ length (copy-ap q .copy .last .0)
+long-ap : (q : tie.After-slice-known10) → start q .args .part .low .count ≤ length (copy-ap q .copy .last .0)
 long-ap q = let s = start q in omega (arith, s .pre .1 .0 .0, s .pre .1 .0 .1, s .pre .1 .1 .0, copy-ap q .copy .kept .0)
 
-long-an : (q : tie.After-slice-known13) → start q .args .part .low .count ≤ length (copy-an q .copy2 .last .0)
+long-an : (q : tie.After-slice-known10) → start q .args .part .low .count ≤ length (copy-an q .copy2 .last .0)
 long-an q = let s = start q in omega (arith, s .pre .1 .0 .0, s .pre .1 .0 .1, s .pre .1 .1 .1, copy-an q .copy2 .kept .0)
 
-long-bp : (q : tie.After-slice-known13) → start q .args .part .high .count ≤ length (copy-bp q .copy3 .last .0)
+long-bp : (q : tie.After-slice-known10) → start q .args .part .high .count ≤ length (copy-bp q .copy3 .last .0)
 long-bp q = let s = start q in omega (arith, s .pre .1 .0 .0, s .pre .1 .0 .2, s .pre .1 .1 .2, copy-bp q .copy3 .kept .0)
 
-long-bn : (q : tie.After-slice-known13) → start q .args .part .high .count ≤ length (copy-bn q .copy4 .last .0)
+long-bn : (q : tie.After-slice-known10) → start q .args .part .high .count ≤ length (copy-bn q .copy4 .last .0)
 long-bn q = let s = start q in omega (arith, s .pre .1 .0 .0, s .pre .1 .0 .2, s .pre .1 .1 .3, copy-bn q .copy4 .kept .0)
 
-front-ap : (q : tie.After-slice-known13) → length (take (start q .args .part .low .count) (copy-ap q .copy .last .0)) ≡ start q .args .part .low .count
+front-ap : (q : tie.After-slice-known10) → length (take (start q .args .part .low .count) (copy-ap q .copy .last .0)) ≡ start q .args .part .low .count
 front-ap q = length-take-le (start q .args .part .low .count) (copy-ap q .copy .last .0) (long-ap q)
 
-front-an : (q : tie.After-slice-known13) → length (take (start q .args .part .low .count) (copy-an q .copy2 .last .0)) ≡ start q .args .part .low .count
+front-an : (q : tie.After-slice-known10) → length (take (start q .args .part .low .count) (copy-an q .copy2 .last .0)) ≡ start q .args .part .low .count
 front-an q = length-take-le (start q .args .part .low .count) (copy-an q .copy2 .last .0) (long-an q)
 
-front-bp : (q : tie.After-slice-known13) → length (take (start q .args .part .high .count) (copy-bp q .copy3 .last .0)) ≡ start q .args .part .high .count
+front-bp : (q : tie.After-slice-known10) → length (take (start q .args .part .high .count) (copy-bp q .copy3 .last .0)) ≡ start q .args .part .high .count
 front-bp q = length-take-le (start q .args .part .high .count) (copy-bp q .copy3 .last .0) (long-bp q)
 
-front-bn : (q : tie.After-slice-known13) → length (take (start q .args .part .high .count) (copy-bn q .copy4 .last .0)) ≡ start q .args .part .high .count
+front-bn : (q : tie.After-slice-known10) → length (take (start q .args .part .high .count) (copy-bn q .copy4 .last .0)) ≡ start q .args .part .high .count
 front-bn q = length-take-le (start q .args .part .high .count) (copy-bn q .copy4 .last .0) (long-bn q)
 
 -- the buffers, and the node's part of them
@@ -99,7 +99,7 @@ copy-requires-3 c κs = search needs
 
 copy-requires-4 : tie.Need-copy-requires-4
 copy-requires-4 c κs =
-    let s = c .before .before .before .before .before .before .before .before .before .before .before .before .before .before .before .before .before .before .before .before .before .before .before .before .before .before .before .before .before in
+    let s = c .before .before .before .before .before .before .before .before .before .before .before .before .before .before .before .before .before .before .before .before .before .before .before .before .before .before in
     let p = s .pre .1 .0 in
     (omega (arith, p .2, p .4, p .6), omega (arith, p .0, p .2, s .pre .1 .1 .3))
 
@@ -131,41 +131,38 @@ part-make-end-2 : tie.Need-part-make-end-2
 part-make-end-2 c = let s = start (c .before) in rw (s .pre .1 .0 .6) (s .pre .1 .0 .5)
 
 slice-reshare-prefix-make : tie.Need-slice-reshare-prefix-make
-slice-reshare-prefix-make c = long-ap (c .before .before .before .before .before)
+slice-reshare-prefix-make c = long-ap (c .before .before)
 
 slice-aggregate-make : tie.Need-slice-aggregate-make
-slice-aggregate-make c = sym (front-ap (c .before .before .before .before .before .before))
+slice-aggregate-make c = sym (front-ap (c .before .before .before))
 
 slice-reshare-prefix-make-2 : tie.Need-slice-reshare-prefix-make-2
-slice-reshare-prefix-make-2 c = long-an (c .before .before .before .before .before .before)
+slice-reshare-prefix-make-2 c = long-an (c .before .before .before)
 
 slice-aggregate-make-2 : tie.Need-slice-aggregate-make-2
-slice-aggregate-make-2 c = sym (front-an (c .before .before .before .before .before .before .before))
+slice-aggregate-make-2 c = sym (front-an (c .before .before .before .before))
 
 slice-reshare-prefix-make-3 : tie.Need-slice-reshare-prefix-make-3
-slice-reshare-prefix-make-3 c = long-bp (c .before .before .before .before .before .before .before)
+slice-reshare-prefix-make-3 c = long-bp (c .before .before .before .before)
 
 slice-aggregate-make-3 : tie.Need-slice-aggregate-make-3
-slice-aggregate-make-3 c = sym (front-bp (c .before .before .before .before .before .before .before .before))
+slice-aggregate-make-3 c = sym (front-bp (c .before .before .before .before .before))
 
 slice-reshare-prefix-make-4 : tie.Need-slice-reshare-prefix-make-4
-slice-reshare-prefix-make-4 c = long-bn (c .before .before .before .before .before .before .before .before)
+slice-reshare-prefix-make-4 c = long-bn (c .before .before .before .before .before)
 
 slice-aggregate-make-4 : tie.Need-slice-aggregate-make-4
-slice-aggregate-make-4 c = sym (front-bn (c .before .before .before .before .before .before .before .before .before))
+slice-aggregate-make-4 c = sym (front-bn (c .before .before .before .before .before .before))
 
 make-requires : tie.Need-make-requires
 make-requires c κs =
-    let q = c .before .before .before .before .before .before .before .before .before in
+    let q = c .before .before .before .before .before .before in
     let s = start q in
     let x = s .args in (
       given-copied (gateNode (x .part .gate)) (copy-ap q .copy .ensures) (copy-an q .copy2 .ensures) (copy-bp q .copy3 .ensures)
           (copy-bn q .copy4 .ensures) (s .pre .0),
       (
         part-size s false ∙ sym (part-size s true),
-        s .pre .1 .1 .4,
-        s .pre .1 .1 .5,
-        s .pre .1 .1 .6,
         front-an q ∙ sym (front-ap q),
         front-bn q ∙ sym (front-bp q),
       ),
@@ -179,7 +176,7 @@ same-length-2 c = search needs
 
 same-length-3 : tie.Need-same-length-3
 same-length-3 c =
-    copy-ap (c .before .before .before .before .before .before .before .before .before .before .before .before .before .before .before .before .before .before .before .before) .copy .kept .0
+    copy-ap (c .before .before .before .before .before .before .before .before .before .before .before) .copy .kept .0
 
 same-length-4 : tie.Need-same-length-4
 same-length-4 c = search needs
@@ -190,19 +187,10 @@ same-length-5 c = search needs
 same-length-6 : tie.Need-same-length-6
 same-length-6 c = search needs
 
-same-length-7 : tie.Need-same-length-7
-same-length-7 c = search needs
-
-same-length-8 : tie.Need-same-length-8
-same-length-8 c = search needs
-
-same-length-9 : tie.Need-same-length-9
-same-length-9 c = search needs
-
 returns : tie.Need-returns
 returns c =
-    let m = c .before .before .before .before .before .before .before .before .before .before in
-    let q = m .before .before .before .before .before .before .before .before .before .before in
+    let m = c .before .before .before .before in
+    let q = m .before .before .before .before .before .before .before in
     let s = start q in
     let x = s .args in
     let p : Bool → List ℕ = bySign (m .make .last .0) (m .make .last .1 .0) in
@@ -260,7 +248,4 @@ fill-part-spec =
     same-length-4
     same-length-5
     same-length-6
-    same-length-7
-    same-length-8
-    same-length-9
     returns)

@@ -38,7 +38,7 @@ given s g e =
     subst (λ (z : Gate). Given (gateNode z) (x .ap .now) (x .an .now) (x .bp .now) (x .bn .now)) e (s .pre .0)
 
 abbrev start : tie.After-shared-slice-known4 → tie.Start
-start p = p .before .before .before .before .before .before .before .before .before
+start p = p .before .before .before .before .before .before
 
 enum-known-gate : tie.Need-enum-known-gate
 enum-known-gate c = search needs
@@ -60,10 +60,10 @@ enum-known-gate-3 c = search needs
 
 decision-requires : tie.Need-decision-requires
 decision-requires c κs =
-    let g = c .before .before .before .before .before .before in
+    let g = c .before .before .before in
     let s = start (g .before .before) in
     let d = g .gate3 .given in
-    (given s (Decision (d .0 .0) (d .0 .1 .0) (d .0 .1 .1 .0)) (d .1), (s .pre .1 .0, s .pre .1 .1, s .pre .1 .2, s .pre .1 .3))
+    (given s (Decision (d .0 .0) (d .0 .1 .0) (d .0 .1 .1 .0)) (d .1), s .pre .1 .0)
 
 enum-told : tie.Need-enum-told
 enum-told c = search needs
@@ -107,28 +107,19 @@ same-length-5 c = search needs
 same-length-6 : tie.Need-same-length-6
 same-length-6 c = search needs
 
+returns-3 : tie.Need-returns-3
+returns-3 c =
+    let i = c .before .before .before .before in
+    let g = i .before .before .before .before in
+    let d = g .gate3 .given in
+    made (start (g .before .before)) (Decision (d .0 .0) (d .0 .1 .0) (d .0 .1 .1 .0))
+    (bySign (i .decision .last .0) (i .decision .last .1 .0)) (i .decision .result) (d .1) (i .decision .ensures)
+
 same-length-7 : tie.Need-same-length-7
 same-length-7 c = search needs
 
 same-length-8 : tie.Need-same-length-8
 same-length-8 c = search needs
-
-same-length-9 : tie.Need-same-length-9
-same-length-9 c = search needs
-
-returns-3 : tie.Need-returns-3
-returns-3 c =
-    let i = c .before .before .before .before .before .before .before .before .before .before in
-    let g = i .before .before .before .before .before .before .before in
-    let d = g .gate3 .given in
-    made (start (g .before .before)) (Decision (d .0 .0) (d .0 .1 .0) (d .0 .1 .1 .0))
-    (bySign (i .decision .last .0) (i .decision .last .1 .0)) (i .decision .result) (d .1) (i .decision .ensures)
-
-same-length-10 : tie.Need-same-length-10
-same-length-10 c = search needs
-
-same-length-11 : tie.Need-same-length-11
-same-length-11 c = search needs
 
 returns-4 : tie.Need-returns-4
 returns-4 c =
@@ -170,11 +161,8 @@ make-spec =
     returns-2
     same-length-5
     same-length-6
+    returns-3
     same-length-7
     same-length-8
-    same-length-9
-    returns-3
-    same-length-10
-    same-length-11
     returns-4
     returns-5)

@@ -1,5 +1,5 @@
 -- `decisions::side::list_side` meets its contract. The invariant: the terms of the side up to k are listed.
-use Prim.Native.Nat.{ℕ, _-_, _≤_}
+use Prim.Native.Nat.{ℕ, _-_, _≤_, _<_}
 use mathlib.Core.Path.{_≡_, refl, sym, subst, _∙_}
 use mathlib.Core.Bool.{Bool, true, false}
 use mathlib.Core.List.{List}
@@ -26,7 +26,7 @@ abbrev Inv-loop : tie.InvT-loop
 Inv-loop positives₀ negatives₀ kept₀ hints₀ ap an bp bn literal counts₀ end₀ guess₀ k₀ positives negatives kept hints counts end guess k =
     SideDone (literal .variable) (literal .sign) ap an bp bn (bySign positives₀ negatives₀) (counts₀ .listed) (bySign positives negatives)
     kept counts k
-    × (end ≤ length bp) × (length hints ≡ length hints₀)
+    × (end ≤ length bp) × (length hints ≡ length hints₀) × (length kept ≡ length kept₀)
 
 abbrev μ-loop : tie.MeasureT-loop
 μ-loop positives₀ negatives₀ kept₀ hints₀ ap an bp bn literal counts₀ end₀ guess₀ k₀ positives negatives kept hints counts end guess k =
@@ -50,6 +50,16 @@ turn p = p .before .before .before .before .before .before .before .before
 abbrev then : Called → Bool → List ℕ
 then p = bySign (p .list-one .last .0) (p .list-one .last .1 .0)
 
+-- the call whose growth is known, at the end of a turn
+abbrev after : tie.After-guess-after Inv-loop μ-loop → tie.After-next Inv-loop μ-loop
+after c = c .before .before .before .before .before .before .before .before .before
+
+abbrev called : tie.After-next Inv-loop μ-loop → Called
+called k = k .before .before .before .before .before .before .before .before
+
+tested : (p : Called) → turn p .loop .k < length (start (turn p) .args .ap .now)
+tested p = p .before .before .before .before .before .before .before .loop-test .taken
+
 -- what became of the term
 told : (p : Called) (r : Growth) → p .list-one .result ≡ r
     → let a = turn p in
@@ -70,13 +80,10 @@ told p r e =
 sizes : (a : Loop) (s : Bool) → length (now a s) ≡ length (bySign (start a .args .positives .now) (start a .args .negatives .now) s)
 sizes a = side-length (start a .pre) (start a .args .literal .sign) (a .loop .inv .0)
 
-rooms : (a : Loop) → length (a .loop .kept) ≡ length (start a .args .kept .now)
-rooms a = a .loop .inv .0 .room ∙ sym (start a .pre .growing .room)
-
 loop-holds : tie.Need-loop-holds Inv-loop μ-loop
 loop-holds c =
     let s = c .before .before .before .before .before .before .before .before in
-    (side-start (s .pre) (s .args .literal .sign), omega arith, refl)
+    (side-start (s .pre) (s .args .literal .sign), omega arith, refl, refl)
 
 term-at-requires : tie.Need-term-at-requires Inv-loop μ-loop
 term-at-requires c κs = let h = start (c .before) .pre .growing .at in omega (arith, c .loop-test .taken, h .even-low)
@@ -132,7 +139,7 @@ same-length-2 c =
     p .list-one .kept .1 .0 ∙ sizes (turn p) false
 
 same-length-3 : tie.Need-same-length-3 Inv-loop μ-loop
-same-length-3 c = let p = c .before .before .before .before .before .before .before .before in p .list-one .kept .1 .1 .0 ∙ rooms (turn p)
+same-length-3 c = let p = c .before .before .before .before .before .before .before .before in p .list-one .kept .1 .1 .0 ∙ turn p .loop .inv .3
 
 same-length-4 : tie.Need-same-length-4 Inv-loop μ-loop
 same-length-4 c = let p = c .before .before .before .before .before .before .before .before in turn p .loop .inv .2
@@ -156,22 +163,22 @@ guess-after-requires c κs = search needs
 
 add-k : tie.Need-add-k Inv-loop μ-loop
 add-k c =
-    let a = turn (c .before .before .before .before .before .before .before .before .before .before .before .before .before .before .before .before) in
-    omega (arith, c .before .before .before .before .before .before .before .before .before .before .before .before .before .before .before .before .before .before .before .before .before .before .before .loop-test .taken, start a .pre .growing .at .few-low)
+    let p = called (after c) in
+    omega (arith, tested p, start (turn p) .pre .growing .at .few-low)
 
 loop-less : tie.Need-loop-less Inv-loop μ-loop
-loop-less c =
-    omega (arith, c .before .before .before .before .before .before .before .before .before .before .before .before .before .before .before .before .before .before .before .before .before .before .before .loop-test .taken)
+loop-less c = omega (arith, tested (called (after c)))
 
 loop-again : tie.Need-loop-again Inv-loop μ-loop
 loop-again c =
-    let k = c .before .before .before .before .before .before .before .before in
-    let p = k .before .before .before .before .before .before .before .before in
+    let k = after c in
+    let p = called k in
     let a = turn p in
     let t = told p (To (k .next .given .0 .0)) (k .next .given .1) in (
       side-next (start a .pre) (start a .args .literal .sign) (a .loop .inv .0) (t .0) (t .1) (t .2) (t .3),
       p .before .before .before .before .before .end-ahead .ensures .1,
       c .before .before .before .set-hint .kept .0 ∙ a .loop .inv .2,
+      p .list-one .kept .1 .1 .0 ∙ a .loop .inv .3,
     )
 
 same-length-5 : tie.Need-same-length-5 Inv-loop μ-loop
@@ -181,7 +188,7 @@ same-length-6 : tie.Need-same-length-6 Inv-loop μ-loop
 same-length-6 c = sizes (c .before) false
 
 same-length-7 : tie.Need-same-length-7 Inv-loop μ-loop
-same-length-7 c = rooms (c .before)
+same-length-7 c = c .before .loop .inv .3
 
 same-length-8 : tie.Need-same-length-8 Inv-loop μ-loop
 same-length-8 c = c .before .loop .inv .2

@@ -1,12 +1,11 @@
 -- `pairing::pairs::join_all` meets its contract. The invariant: the pairs of the rows before the next of each side are settled.
-use Prim.Native.Nat.{ℕ, _+_, _-_, _*_}
-use mathlib.Core.Path.{_≡_, refl, sym, subst, _∙_}
+use Prim.Native.Nat.{ℕ, _+_, _-_}
+use mathlib.Core.Path.{_≡_, refl, subst, _∙_}
 use mathlib.Core.Bool.{Bool, true, false}
 use mathlib.Core.Logic.{inl, inr}
 use mathlib.Core.List.{List}
 use native.Mathlib.Omega.{arith}
 use lib.ListN.{length}
-use Rattle.lists.specs.Capacity.{maxCapacity}
 use Rattle.insertion.specs.Filled.{bySign}
 use Rattle.pairing.specs.Pairs.{Turns}
 use Rattle.pairing.specs.declared.pairs.Turned.{Turned}
@@ -19,7 +18,7 @@ use Rattle.pairing.proofs.pairs.join_all.Tie as tie
 abbrev Inv-loop : tie.InvT-loop
 Inv-loop positives₀ negatives₀ kept₀ hints₀ columns₀ ap an bp bn turn₀ positives negatives kept hints columns turn =
     PairsDone ap an bp bn (bySign positives₀ negatives₀) (turn₀ .listed) (bySign positives negatives) kept turn
-    × (length hints ≡ 2 * maxCapacity) × (length columns ≡ 10240)
+    × (length kept ≡ length kept₀) × (length hints ≡ length hints₀) × (length columns ≡ length columns₀)
 
 abbrev μ-loop : tie.MeasureT-loop
 μ-loop positives₀ negatives₀ kept₀ hints₀ columns₀ ap an bp bn turn₀ positives negatives kept hints columns turn =
@@ -56,20 +55,17 @@ told p r e =
 sizes : (a : Loop) (s : Bool) → length (now a s) ≡ length (bySign (start a .args .positives .now) (start a .args .negatives .now) s)
 sizes a = pairs-length (start a .pre .0) (a .loop .inv .0)
 
-rooms : (a : Loop) → length (a .loop .kept) ≡ length (start a .args .kept .now)
-rooms a = a .loop .inv .0 .room ∙ sym (start a .pre .0 .room)
-
 loop-holds : tie.Need-loop-holds Inv-loop μ-loop
 loop-holds c =
     let s = c .before .before .before .before .before .before .before .before .before in
-    (pairs-start (s .pre .0) _ _ refl refl, s .pre .1 .0, s .pre .1 .1)
+    (pairs-start (s .pre .0) _ _ refl refl, refl, refl, refl)
 
 step-requires : tie.Need-step-requires Inv-loop μ-loop
 step-requires c κs =
     let e = c .before .before .before .before .before in
     let w = e .before .before in
     let a = w .before .before in
-    (pairs-left (start a .pre .0) (a .loop .inv .0) (w .if1 .taken) (omega (arith, e .if2 .left)), (a .loop .inv .1, a .loop .inv .2))
+    (pairs-left (start a .pre .0) (a .loop .inv .0) (w .if1 .taken) (omega (arith, e .if2 .left)), rw (a .loop .inv .3) (start a .pre .1))
 
 enum-known-next : tie.Need-enum-known-next Inv-loop μ-loop
 enum-known-next c = search needs
@@ -90,17 +86,17 @@ same-length-2 c =
 same-length-3 : tie.Need-same-length-3 Inv-loop μ-loop
 same-length-3 c =
     let p = c .before .before .before .before .before .before .before .before .before .before .before .before in
-    p .step .kept .1 .1 .0 ∙ rooms (turn p)
+    p .step .kept .1 .1 .0 ∙ turn p .loop .inv .1
 
 same-length-4 : tie.Need-same-length-4 Inv-loop μ-loop
 same-length-4 c =
     let p = c .before .before .before .before .before .before .before .before .before .before .before .before in
-    p .step .kept .1 .1 .1 .0 ∙ turn p .loop .inv .1 ∙ sym (start (turn p) .pre .1 .0)
+    p .step .kept .1 .1 .1 .0 ∙ turn p .loop .inv .2
 
 same-length-5 : tie.Need-same-length-5 Inv-loop μ-loop
 same-length-5 c =
     let p = c .before .before .before .before .before .before .before .before .before .before .before .before in
-    p .step .kept .1 .1 .1 .1 .0 ∙ turn p .loop .inv .2 ∙ sym (start (turn p) .pre .1 .1)
+    p .step .kept .1 .1 .1 .1 .0 ∙ turn p .loop .inv .3
 
 returns : tie.Need-returns Inv-loop μ-loop
 returns c =
@@ -119,8 +115,9 @@ loop-again c =
     let a = turn p in
     let t = told p (Next (c .before .next .given .0 .0)) (c .before .next .given .1) in (
       pairs-next (start a .pre .0) (a .loop .inv .0) (t .0) (t .1) (t .2) (t .3),
-      p .step .kept .1 .1 .1 .0 ∙ a .loop .inv .1,
-      p .step .kept .1 .1 .1 .1 .0 ∙ a .loop .inv .2,
+      p .step .kept .1 .1 .0 ∙ a .loop .inv .1,
+      p .step .kept .1 .1 .1 .0 ∙ a .loop .inv .2,
+      p .step .kept .1 .1 .1 .1 .0 ∙ a .loop .inv .3,
     )
 
 same-length-6 : tie.Need-same-length-6 Inv-loop μ-loop
@@ -130,7 +127,7 @@ same-length-7 : tie.Need-same-length-7 Inv-loop μ-loop
 same-length-7 c = sizes (c .before .before) false
 
 same-length-8 : tie.Need-same-length-8 Inv-loop μ-loop
-same-length-8 c = rooms (c .before .before)
+same-length-8 c = c .before .before .loop .inv .1
 
 same-length-9 : tie.Need-same-length-9 Inv-loop μ-loop
 same-length-9 c = search needs
@@ -148,7 +145,7 @@ same-length-12 : tie.Need-same-length-12 Inv-loop μ-loop
 same-length-12 c = sizes (c .before .before .before .before) false
 
 same-length-13 : tie.Need-same-length-13 Inv-loop μ-loop
-same-length-13 c = rooms (c .before .before .before .before)
+same-length-13 c = c .before .before .before .before .loop .inv .1
 
 same-length-14 : tie.Need-same-length-14 Inv-loop μ-loop
 same-length-14 c = search needs

@@ -51,19 +51,19 @@ slice-relend-prefix-settle-row c = search needs
 
 slice-aggregate-settle-row : tie.Need-slice-aggregate-settle-row
 slice-aggregate-settle-row c =
-    simp length-take (omega (arith, c .before .before .before .before .before .before .before .before .before .before .before .before .before .before .before .before .before .pre .1 .0))
+    simp length-take (omega arith)
 
 slice-relend-prefix-settle-row-2 : tie.Need-slice-relend-prefix-settle-row-2
 slice-relend-prefix-settle-row-2 c = search needs
 
 slice-aggregate-settle-row-2 : tie.Need-slice-aggregate-settle-row-2
 slice-aggregate-settle-row-2 c =
-    simp length-take (omega (arith, c .before .before .before .before .before .before .before .before .before .before .before .before .before .before .before .before .before .before .pre .1 .1))
+    simp length-take (omega arith)
 
 settle-row-requires : tie.Need-settle-row-requires
 settle-row-requires c κs =
     let s = c .before .before .before .before .before .before .before .before .before .before .before .before .before .before .before .before .before .before in
-    (growing-turned (recounted (s .pre .0 .growing) (s .args .turn .high .cost)), (s .pre .0 .high-left, simp length-take (omega (arith, s .pre .1 .1))))
+    (growing-turned (recounted (s .pre .0 .growing) (s .args .turn .high .cost)), (s .pre .0 .high-left, simp length-take (omega (arith, s .pre .1 .0))))
 
 enum-known-c : tie.Need-enum-known-c
 enum-known-c c = search needs

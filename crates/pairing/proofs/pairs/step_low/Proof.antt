@@ -42,6 +42,9 @@ told p r e =
 hint-at-requires : tie.Need-hint-at-requires
 hint-at-requires c κs = search needs
 
+mul-settle-row : tie.Need-mul-settle-row
+mul-settle-row c = search needs
+
 sub-settle-row : tie.Need-sub-settle-row
 sub-settle-row c = search needs
 
@@ -50,6 +53,9 @@ part-settle-row-start c = search needs
 
 part-settle-row-end : tie.Need-part-settle-row-end
 part-settle-row-end c = search needs
+
+mul-settle-row-2 : tie.Need-mul-settle-row-2
+mul-settle-row-2 c = search needs
 
 sub-settle-row-2 : tie.Need-sub-settle-row-2
 sub-settle-row-2 c = search needs
@@ -90,8 +96,8 @@ returns : tie.Need-returns
 returns c =
     told (c .before .before .before .before .before .before .before .before .before .before .before .before) Over (c .enum-told .given .1)
 
-add-t28 : tie.Need-add-t28
-add-t28 c =
+add-t22 : tie.Need-add-t22
+add-t22 c =
     let q = start (c .before .before .before .before .before .before .before .before .before .before .before .before .before) .pre .0 in
     omega (arith, q .low-left, q .growing .at .few-low)
 
@@ -123,9 +129,11 @@ step-low-spec =
     tie.close
     (tie.spec
     hint-at-requires
+    mul-settle-row
     sub-settle-row
     part-settle-row-start
     part-settle-row-end
+    mul-settle-row-2
     sub-settle-row-2
     part-settle-row-start-2
     part-settle-row-end-2
@@ -138,7 +146,7 @@ step-low-spec =
     same-length-4
     same-length-5
     returns
-    add-t28
+    add-t22
     same-length-6
     same-length-7
     same-length-8

@@ -8,6 +8,7 @@ use lib.ListN.{length, length-replicate}
 use Rattle.terms.specs.Term.{termsOf}
 use Rattle.terms.specs.declared.Term.{Term}
 use Rattle.lists.specs.Scans.{termAt}
+use Rattle.hints.specs.Scratch.{maxWords}
 use Rattle.insertion.specs.Filled.{bySign}
 use Rattle.settling.specs.Growth.{Grown}
 use Rattle.settling.specs.Sides.{leastJoins, Settled}
@@ -23,7 +24,7 @@ use Rattle.settling.proofs.rows.join_row.Tie as tie
 abbrev Inv-loop : tie.InvT-loop
 Inv-loop positives₀ negatives₀ kept₀ hints₀ columns₀ ap an bp bn at made t words left₀ counts₀ j₀ positives negatives kept hints columns left counts j =
     SoFar ap an bp bn (termAt ap an at) j₀ (bySign positives₀ negatives₀) (counts₀ .listed) (bySign positives negatives) kept counts j
-    × (length columns ≡ 5120) × (length left ≡ 64) × (length hints ≡ length hints₀) × (length columns ≡ length columns₀)
+    × (length kept ≡ length kept₀) × (length left ≡ maxWords) × (length hints ≡ length hints₀) × (length columns ≡ length columns₀)
 
 abbrev μ-loop : tie.MeasureT-loop
 μ-loop positives₀ negatives₀ kept₀ hints₀ columns₀ ap an bp bn at made t words left₀ counts₀ j₀ positives negatives kept hints columns left counts j =
@@ -95,7 +96,7 @@ loop-holds : tie.Need-loop-holds Inv-loop μ-loop
 loop-holds c =
     let s = c .before .before .before .before .before .before .before .before .before .before .before .before in
     let x = s .args in
-    (so-far-start (s .pre .0) (termAt (x .ap .now) (x .an .now) (x .row .at)) (x .row .from) 0, s .pre .1 .1, length-replicate {A = ℕ} 64 0, refl, refl)
+    (so-far-start (s .pre .0) (termAt (x .ap .now) (x .an .now) (x .row .at)) (x .row .from) 0, refl, length-replicate {A = ℕ} maxWords 0, refl, refl)
 
 slice-aggregate-try-kept : tie.Need-slice-aggregate-try-kept Inv-loop μ-loop
 slice-aggregate-try-kept c = sym (c .before .before .before .before .before .loop .inv .2)
@@ -106,7 +107,7 @@ try-kept-requires c κs =
     let a = w .before in
     let h = a .loop .inv .0 in
     let g = start a .pre .0 in
-    (h .room, h .keeps .room, a .loop .inv .1, a .loop .inv .2, g .at .even-high, g .at .few-high, w .loop-test .taken)
+    (h .room, h .keeps .room, rw (a .loop .inv .4) (start a .pre .1 .1), a .loop .inv .2, g .at .even-high, g .at .few-high, w .loop-test .taken)
 
 settle-requires : tie.Need-settle-requires Inv-loop μ-loop
 settle-requires c κs =
@@ -141,7 +142,7 @@ same-length-3 : tie.Need-same-length-3 Inv-loop μ-loop
 same-length-3 c =
     let p = c .before .before .before .before .before .before .before .before in
     let a = turn (tried p) in
-    p .settle .kept .1 .1 .0 ∙ a .loop .inv .0 .room ∙ sym (start a .pre .0 .room)
+    p .settle .kept .1 .1 .0 ∙ a .loop .inv .1
 
 same-length-4 : tie.Need-same-length-4 Inv-loop μ-loop
 same-length-4 c = search needs
@@ -164,9 +165,9 @@ spread-new-requires c κs =
     let q = tried p in
     let a = turn q in (
       told p (To (k .before .next .given .0 .0)) (k .before .next .given .1) .1 .room,
-      a .before .words-for .ensures .0,
+      a .before .words-for .ensures .1,
       q .try-kept .kept .1 .1 .1 .0 ∙ a .loop .inv .2,
-      q .try-kept .kept .1 .1 .0 ∙ a .loop .inv .1,
+      rw (a .before .words-for .ensures .0, q .try-kept .kept .1 .1 .0, a .loop .inv .4) (start a .pre .1 .1),
     )
 
 add-j : tie.Need-add-j Inv-loop μ-loop
@@ -188,7 +189,7 @@ loop-again c =
     let a = turn q in
     let t = told p (To (k .before .next .given .0 .0)) (k .before .next .given .1) in (
       so-far-next (start a .pre .0) (a .loop .inv .0) (t .0) (t .1) (t .2) (t .3),
-      q .try-kept .kept .1 .1 .0 ∙ a .loop .inv .1,
+      p .settle .kept .1 .1 .0 ∙ a .loop .inv .1,
       n .spread-new .kept .1 .1 .1 .0 ∙ q .try-kept .kept .1 .1 .1 .0 ∙ a .loop .inv .2,
       n .spread-new .kept .1 .0 ∙ q .try-kept .kept .1 .0 ∙ a .loop .inv .3,
       q .try-kept .kept .1 .1 .0 ∙ a .loop .inv .4,

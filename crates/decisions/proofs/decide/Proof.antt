@@ -1,4 +1,4 @@
--- `decisions::decision` meets its contract: one side, the other, and all pairs.
+-- `decisions::decide` meets its contract: one side, the other, and all pairs.
 use Prim.Native.Nat.{ℕ}
 use mathlib.Core.Path.{_≡_, subst, _∙_}
 use mathlib.Core.Bool.{Bool, true, false}
@@ -15,8 +15,8 @@ use Rattle.settling.specs.declared.counts.Growth.{Growth}
 use Rattle.settling.specs.declared.counts.Growth.the-variants.{To, Over}
 use Rattle.decisions.proofs.Whole.{first, second, third, over₁, over₂, over₃, ends}
 use borrow.Author.Needs.{needs}
-use Rattle.decisions.proofs.decision.Statement.{statement}
-use Rattle.decisions.proofs.decision.Tie as tie
+use Rattle.decisions.proofs.decide.Statement.{statement}
+use Rattle.decisions.proofs.decide.Tie as tie
 
 abbrev Start : Type 0
 Start = tie.Start
@@ -33,7 +33,7 @@ slices s = bySign (s .args .positives .now) (s .args .negatives .now)
 begun : (s : Start)
     → Extending (s .args .x) (s .args .ap .now) (s .args .an .now) (s .args .bp .now) (s .args .bn .now) (slices s) (s .args .kept .now)
     (record { listed = 0; kept = 0; cost = 0 })
-begun s = first (s .pre .0) (slices s) (s .args .kept .now) (s .pre .1 .0) (s .pre .1 .1)
+begun s = first (s .pre .0) (slices s) (s .args .kept .now) (s .pre .1 .0 .0) (s .pre .1 .0 .1)
 
 -- ---- the first side
 abbrev start₁ : tie.After-list-side → Start
@@ -194,10 +194,7 @@ join-all-requires c κs =
     let s = start₁ (one j) in (
       third (s .pre .0) (begun s) (then₁ (one j)) (kept₁ (one j)) (counts₁ j) (done₁ j) (then₂ (two k)) (kept₂ (two k)) (counts₂ k)
           (told₂ (two k) (To (counts₂ k)) (k .d .given .1)),
-      (
-        before-pairs k .3 ∙ s .pre .1 .2,
-        s .pre .1 .3,
-      ),
+      s .pre .1 .1,
     )
 
 enum-known-e : tie.Need-enum-known-e
@@ -271,8 +268,8 @@ returns-4 c =
     ends (s .pre .0) (begun s) (then₁ (one j)) (kept₁ (one j)) (counts₁ j) (done₁ j) (then₂ (two k)) (kept₂ (two k)) (counts₂ k)
     (told₂ (two k) (To (counts₂ k)) (k .d .given .1)) (then₃ p) (p .join-all .last .1 .1 .0) (m .e .given .0 .0) (told₃ p (To (m .e .given .0 .0)) (m .e .given .1))
 
-pub decision-spec : {M : Type 1} → statement M
-decision-spec =
+pub decide-spec : {M : Type 1} → statement M
+decide-spec =
     tie.close
     (tie.spec
     list-side-requires

@@ -43,10 +43,12 @@ fn list_one(
     counts: Counts,
     one: One,
 ) -> Growth
-    requires { ⌜ Extending (literal .variable) (now ap) (now an) (now bp) (now bn) (bySign (now positives) (now negatives)) (now kept) counts ⌝ }
+    requires { ⌜ Extending (literal .variable) (now ap) (now an) (now bp) (now bn) (bySign (now positives) (now negatives)) (now kept)
+        counts ⌝ }
     requires { ⌜ (one .at < length (now ap)) × FoundInside (now bp) (now bn) (termAt (now ap) (now an) (one .at)) (one .found) ⌝ }
     ensures { λ r. ⌜ Grown
-        (sideTerms (literal .variable) (literal .sign) (termsOf (now (ap .entry)) (now (an .entry))) (termsOf (now (bp .entry)) (now (bn .entry))))
+        (sideTerms (literal .variable) (literal .sign) (termsOf (now (ap .entry)) (now (an .entry)))
+        (termsOf (now (bp .entry)) (now (bn .entry))))
         (leastJoins (termsOf (now (ap .entry)) (now (an .entry))) (termsOf (now (bp .entry)) (now (bn .entry))))
         (ListsOne (literal .variable) (literal .sign) (termsOf (now (bp .entry)) (now (bn .entry)))
         (termAt (now (ap .entry)) (now (an .entry)) (one .at)))
@@ -116,11 +118,14 @@ pub fn list_side(
     literal: Literal,
     start: Counts,
 ) -> Growth
-    requires { ⌜ Extending (literal .variable) (now ap) (now an) (now bp) (now bn) (bySign (now positives) (now negatives)) (now kept) start ⌝ }
+    requires { ⌜ Extending (literal .variable) (now ap) (now an) (now bp) (now bn) (bySign (now positives) (now negatives)) (now kept)
+        start ⌝ }
     ensures { λ r. ⌜ Grown
-        (sideTerms (literal .variable) (literal .sign) (termsOf (now (ap .entry)) (now (an .entry))) (termsOf (now (bp .entry)) (now (bn .entry))))
+        (sideTerms (literal .variable) (literal .sign) (termsOf (now (ap .entry)) (now (an .entry)))
+        (termsOf (now (bp .entry)) (now (bn .entry))))
         (leastJoins (termsOf (now (ap .entry)) (now (an .entry))) (termsOf (now (bp .entry)) (now (bn .entry))))
-        (ListsSide (literal .variable) (literal .sign) (termsOf (now (ap .entry)) (now (an .entry))) (termsOf (now (bp .entry)) (now (bn .entry))))
+        (ListsSide (literal .variable) (literal .sign) (termsOf (now (ap .entry)) (now (an .entry)))
+        (termsOf (now (bp .entry)) (now (bn .entry))))
         (bySign (now (positives .entry)) (now (negatives .entry))) (start .listed)
         (bySign (now (positives .exit)) (now (negatives .exit))) (now (kept .exit)) r ⌝ }
 {

@@ -349,7 +349,8 @@ pub fn renew(
     t: Term,
 ) -> usize
     requires { ⌜ (count ≤ maxCapacity) × (2 * count ≤ length (now kept)) × (length (now left) ≡ maxWords) ⌝ }
-    requires { ⌜ HasColumns (wordsFor (length (now bp))) (now columns) × (length (now bn) ≡ length (now bp)) × (length (now bp) ≤ maxCapacity) ⌝ }
+    requires { ⌜ HasColumns (wordsFor (length (now bp))) (now columns) × (length (now bn) ≡ length (now bp))
+        × (length (now bp) ≤ maxCapacity) ⌝ }
     ensures { λ r. ⌜ (r ≤ maxCost) × (length (now (hints .exit)) ≡ length (now (hints .entry)))
         × (length (now (left .exit)) ≡ length (now (left .entry))) ⌝ }
 {

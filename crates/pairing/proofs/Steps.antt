@@ -98,7 +98,8 @@ module _ {ap an bp bn : List ℕ} (h : SidesAt ap an bp bn) {low high : ℕ} {l 
       here : (i : ℕ) → i < length ap → Done ap an bp bn low high l i high
       here i k =
           ⊎-elim (λ t. inl (inl (ltb→lt i low t)))
-          (λ t. inr (settled-turned (h .sides) (termAt ap an i) (termAt bp bn high) (low-in h i k) (high-in h high n) (done i (nltb→le i low t) k)))
+          (λ t. inr (settled-turned (h .sides) (termAt ap an i) (termAt bp bn high) (low-in h i k) (high-in h high n)
+          (done i (nltb→le i low t) k)))
           (decide (ltb i low))
 
       settles : (i j : ℕ) → i < length ap → j < length bp → (i < low) ⊎ (j < high + 1) → Done ap an bp bn low high l i j

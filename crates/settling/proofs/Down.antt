@@ -35,7 +35,8 @@ module _ {ap an bp bn : List ℕ} (h : SidesAt ap an bp bn) where
   ends t r m n f = struck (h .sides) t m (subst (Found ap an bp bn t) n f)
 
   -- one was found
-  module _ (t : Term) (r : Shorter) (m : List·Memᴰ t (joins (termsOf ap an) (termsOf bp bn))) (k l : ℕ) (n : r ≡ At k l) (f : Found ap an bp bn t r) where
+  module _ (t : Term) (r : Shorter) (m : List·Memᴰ t (joins (termsOf ap an) (termsOf bp bn))) (k l : ℕ) (n : r ≡ At k l)
+      (f : Found ap an bp bn t r) where
     abbrev next : Term
     next = join (termAt ap an k) (termAt bp bn l)
 
@@ -53,8 +54,8 @@ module _ {ap an bp bn : List ℕ} (h : SidesAt ap an bp bn) where
 
     down : List·Memᴰ next (joins (termsOf ap an) (termsOf bp bn)) × T (inside next t) × T (ltb (literals next) (literals t))
     down =
-        shorter-down (h .sides .variables) (h .sides .wide) (termsOf ap an) (termsOf bp bn) (low-terms (h .sides)) (high-terms (h .sides)) t (joins-terms (h .sides) t m)
-        (termAt ap an k) (termAt bp bn l) (low-in k first-there) (high-in l second-there)
+        shorter-down (h .sides .variables) (h .sides .wide) (termsOf ap an) (termsOf bp bn) (low-terms (h .sides)) (high-terms (h .sides)) t
+        (joins-terms (h .sides) t m) (termAt ap an k) (termAt bp bn l) (low-in k first-there) (high-in l second-there)
         (and-r (ltb k (length ap) && ltb l (length bp)) (shorter t (termAt ap an k) (termAt bp bn l)) found)
 
     pub next-join : List·Memᴰ next (joins (termsOf ap an) (termsOf bp bn))

@@ -28,8 +28,8 @@ module _ {kept : List ℕ} {k : ℕ} {t u : Term} {r : Tried} (v : Term) (e : v 
   tries-kept q h b c d found s =
       record {
         yes = λ y. let (l, i) = found (sym s ∙ y) in
-            inr
-            (h, l, subst (λ (z : Term). inside (keptAt kept h) (join t z) ≡ true) e (subst (λ (z : Term). inside (keptAt kept h) z ≡ true) d i));
+            let one = subst (λ (z : Term). inside (keptAt kept h) z ≡ true) d i in
+            inr (h, l, subst (λ (z : Term). inside (keptAt kept h) (join t z) ≡ true) e one);
         no = λ n. subst (λ (z : Term). conflict t z ≡ false) e c;
       }
 

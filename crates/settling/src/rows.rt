@@ -35,7 +35,8 @@ struct Tried {
 
 // Makes the columns of b, unless they are made.
 fn make_columns(columns: &mut [u64], bp: &[u64], bn: &[u64], made: bool)
-    requires { ⌜ HasColumns (wordsFor (length (now bp))) (now columns) × (length (now bn) ≡ length (now bp)) × (length (now bp) ≤ maxCapacity) ⌝ }
+    requires { ⌜ HasColumns (wordsFor (length (now bp))) (now columns) × (length (now bn) ≡ length (now bp))
+        × (length (now bp) ≤ maxCapacity) ⌝ }
 {
     if !made {
         hints::fill_columns(columns, bp, bn);
@@ -54,8 +55,9 @@ fn try_kept(
     t: Term,
     pair: Pair,
 ) -> Tried
-    requires { ⌜ (length (now kept) ≤ 2 * maxCapacity) × (2 * (pair .kept) ≤ length (now kept)) × HasColumns (wordsFor (length (now bp))) (now columns)
-        × (length (now left) ≡ maxWords) × (length (now bn) ≡ length (now bp)) × (length (now bp) ≤ maxCapacity) × (pair .at < length (now bp)) ⌝ }
+    requires { ⌜ (length (now kept) ≤ 2 * maxCapacity) × (2 * (pair .kept) ≤ length (now kept))
+        × HasColumns (wordsFor (length (now bp))) (now columns) × (length (now left) ≡ maxWords)
+        × (length (now bn) ≡ length (now bp)) × (length (now bp) ≤ maxCapacity) × (pair .at < length (now bp)) ⌝ }
     ensures { λ r. ⌜ Tries (now (kept .entry)) (pair .kept) t (termAt (now (bp .entry)) (now (bn .entry)) (pair .at)) r ⌝ }
 {
     let at = pair.at;

@@ -265,8 +265,9 @@ returns-4 c =
     let k = after₂ p in
     let j = after₁ (two k) in
     let s = start₁ (one j) in
+    let d : Counts = m .e .given .0 .0 in
     ends (s .pre .0) (begun s) (then₁ (one j)) (kept₁ (one j)) (counts₁ j) (done₁ j) (then₂ (two k)) (kept₂ (two k)) (counts₂ k)
-    (told₂ (two k) (To (counts₂ k)) (k .d .given .1)) (then₃ p) (p .join-all .last .1 .1 .0) (m .e .given .0 .0) (told₃ p (To (m .e .given .0 .0)) (m .e .given .1))
+    (told₂ (two k) (To (counts₂ k)) (k .d .given .1)) (then₃ p) (p .join-all .last .1 .1 .0) d (told₃ p (To d) (m .e .given .1))
 
 pub decide-spec : {M : Type 1} → statement M
 decide-spec =

@@ -19,8 +19,9 @@ slice-aggregate-decide-3 c = search needs
 decide-requires : tie.Need-decide-requires
 decide-requires c κs =
     let s = c .before .before .before .before .before .before .before .before .before .before .before in
-    let x = s .args in
-    (s .pre .0, ((s .pre .1 .0, kept-fits fewJoins (omega arith)), columns-fit shortSide (length (x .ap .now)) (length (x .bp .now)) (s .pre .1 .1) (s .pre .1 .2)))
+    let m = length (s .args .ap .now) in
+    let n = length (s .args .bp .now) in
+    (s .pre .0, ((s .pre .1 .0, kept-fits fewJoins (omega arith)), columns-fit shortSide m n (s .pre .1 .1) (s .pre .1 .2)))
 
 same-length : tie.Need-same-length
 same-length c = search needs

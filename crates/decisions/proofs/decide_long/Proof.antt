@@ -19,8 +19,10 @@ slice-aggregate-decide-3 c = search needs
 decide-requires : tie.Need-decide-requires
 decide-requires c κs =
     let s = c .before .before .before .before .before .before .before .before .before .before .before in
-    let x = s .args in
-    (s .pre .0, ((s .pre .1, kept-fits maxCapacity (omega arith)), columns-fit maxCapacity (length (x .ap .now)) (length (x .bp .now)) (s .pre .0 .at .few-low) (s .pre .0 .at .few-high)))
+    let m = length (s .args .ap .now) in
+    let n = length (s .args .bp .now) in
+    let columns = columns-fit maxCapacity m n (s .pre .0 .at .few-low) (s .pre .0 .at .few-high) in
+    (s .pre .0, ((s .pre .1, kept-fits maxCapacity (omega arith)), columns))
 
 same-length : tie.Need-same-length
 same-length c = search needs

@@ -7,7 +7,8 @@ use Rattle.hints.proofs.fill_columns.Statement.{statement}
 use Rattle.hints.proofs.fill_columns.Tie as tie
 
 abbrev Inv-loop : tie.InvT-loop
-Inv-loop columns₀ positives negatives words i₀ i-end columns i = (i ≤ i-end) × (i-end ≡ length positives) × (length columns ≡ length columns₀)
+Inv-loop columns₀ positives negatives words i₀ i-end columns i =
+    (i ≤ i-end) × (i-end ≡ length positives) × (length columns ≡ length columns₀)
 
 abbrev μ-loop : tie.MeasureT-loop
 μ-loop columns₀ positives negatives words i₀ i-end columns i = i-end - i

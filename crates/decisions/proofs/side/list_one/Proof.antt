@@ -12,6 +12,7 @@ use Rattle.insertion.specs.Filled.{bySign, held, Filled}
 use Rattle.insertion.specs.declared.Kept.{Kept}
 use Rattle.insertion.specs.declared.Kept.the-variants.{Count, Full}
 use Rattle.subsumption.specs.Ahead.{FoundInside}
+use Rattle.subsumption.specs.declared.Found.{Found}
 use Rattle.settling.specs.Growth.{Keeps}
 use Rattle.decisions.proofs.OneSide.{one-kept, one-extended, one-over}
 use borrow.Author.Needs.{needs}
@@ -28,21 +29,30 @@ place p = p .before .before .before .before .before .before
 abbrev then : tie.After-insert → Bool → List ℕ
 then p = bySign (p .insert .last .0) (p .insert .last .1 .0)
 
+-- the term with the literal
+abbrev wide : tie.After-insert → Term
+wide p = p .before .before .before .extend .result
+
+-- the buffers before, and what was looked for
+abbrev slices : tie.Start → Bool → List ℕ
+slices s = bySign (s .args .positives .now) (s .args .negatives .now)
+
+abbrev Looked : tie.Start → Found → Type 0
+Looked s = let x = s .args in FoundInside (x .bp .now) (x .bn .now) (termAt (x .ap .now) (x .an .now) (x .one .at))
+
 told : (p : tie.After-insert) (r : Kept) → p .insert .result ≡ r
-    → let x = start (place p) .args in
-    Filled (insert before (p .before .before .before .extend .result) (held (bySign (x .positives .now) (x .negatives .now)) (x .counts .listed)))
-    (bySign (x .positives .now) (x .negatives .now)) (then p) r
+    → let s = start (place p) in
+    Filled (insert before (wide p) (held (slices s) (s .args .counts .listed))) (slices s) (then p) r
 told p r e =
-    let x = start (place p) .args in
-    subst
-    (Filled (insert before (p .before .before .before .extend .result) (held (bySign (x .positives .now) (x .negatives .now)) (x .counts .listed)))
-    (bySign (x .positives .now) (x .negatives .now)) (then p)) e (p .insert .ensures)
+    let s = start (place p) in
+    subst (Filled (insert before (wide p) (held (slices s) (s .args .counts .listed))) (slices s) (then p)) e (p .insert .ensures)
 
 made : (p : tie.After-insert) → let x = start (place p) .args in
-    p .before .before .before .extend .result ≡ extend (termAt (x .ap .now) (x .an .now) (x .one .at)) (x .literal .variable) (x .literal .sign)
+    wide p ≡ extend (termAt (x .ap .now) (x .an .now) (x .one .at)) (x .literal .variable) (x .literal .sign)
 made p =
     let x = start (place p) .args in
-    p .before .before .before .extend .ensures ∙ ap (λ (t : Term). extend t (x .literal .variable) (x .literal .sign)) (place p .term-at .ensures)
+    p .before .before .before .extend .ensures
+    ∙ ap (λ (t : Term). extend t (x .literal .variable) (x .literal .sign)) (place p .term-at .ensures)
 
 term-at-requires : tie.Need-term-at-requires
 term-at-requires c κs = search needs
@@ -79,8 +89,8 @@ returns c =
     let p = c .before .before .before .before .before .before in
     let s = start (place p) in
     let x = s .args in
-    let none = subst (FoundInside (x .bp .now) (x .bn .now) (termAt (x .ap .now) (x .an .now) (x .one .at))) (p .before .before .before .before .enum-told2 .given .1) (s .pre .1 .1) in
-    one-over (s .pre .0) (x .literal .sign) (x .one .at) (s .pre .1 .0) none (then p) (p .before .before .before .extend .result) (made p)
+    let none = subst (Looked s) (p .before .before .before .before .enum-told2 .given .1) (s .pre .1 .1) in
+    one-over (s .pre .0) (x .literal .sign) (x .one .at) (s .pre .1 .0) none (then p) (wide p) (made p)
     (told p Full (c .enum-told3 .given .1))
 
 same-length-3 : tie.Need-same-length-3
@@ -100,9 +110,9 @@ returns-2 c =
     let s = start m in
     let x = s .args in
     let s′ : Bool → List ℕ = bySign (k .keep .last .0) (k .keep .last .1 .0) in
-    let found = subst (FoundInside (x .bp .now) (x .bn .now) (termAt (x .ap .now) (x .an .now) (x .one .at))) (e .enum-told .given .1) (s .pre .1 .1) in
+    let found = subst (Looked s) (e .enum-told .given .1) (s .pre .1 .1) in
     one-kept (s .pre .0) (x .literal .sign) (x .one .at) (s .pre .1 .0) s′ (k .keep .last .1 .1 .0) (k .keep .result) _ found
-    (subst (λ (t : Term). Keeps t (bySign (x .positives .now) (x .negatives .now)) (x .kept .now) (x .counts) s′ (k .keep .last .1 .1 .0) (k .keep .result))
+    (subst (λ (t : Term). Keeps t (slices s) (x .kept .now) (x .counts) s′ (k .keep .last .1 .1 .0) (k .keep .result))
     (m .term-at .ensures) (k .keep .ensures))
 
 same-length-6 : tie.Need-same-length-6
@@ -116,8 +126,8 @@ returns-3 c =
     let p = c .before .before .before .before .before .before .before in
     let s = start (place p) in
     let x = s .args in
-    let none = subst (FoundInside (x .bp .now) (x .bn .now) (termAt (x .ap .now) (x .an .now) (x .one .at))) (p .before .before .before .before .enum-told2 .given .1) (s .pre .1 .1) in
-    one-extended (s .pre .0) (x .literal .sign) (x .one .at) (s .pre .1 .0) none (then p) (p .before .before .before .extend .result)
+    let none = subst (Looked s) (p .before .before .before .before .enum-told2 .given .1) (s .pre .1 .1) in
+    one-extended (s .pre .0) (x .literal .sign) (x .one .at) (s .pre .1 .0) none (then p) (wide p)
     (c .before .c .given .0 .0) (x .counts .cost) (made p) (told p (Count (c .before .c .given .0 .0)) (c .before .c .given .1))
 
 pub list-one-spec : {M : Type 1} → statement M

@@ -121,7 +121,11 @@ list-one-requires c κs =
     let a = m .before .before in
     let x = start a .args in (
       side-extending (start a .pre) (x .literal .sign) (a .loop .inv .0),
-      (m .before .loop-test .taken, subst (λ (t : Term). FoundInside (x .bp .now) (x .bn .now) t (f .find-inside .result)) (m .term-at .ensures) (f .find-inside .ensures)),
+      (
+        m .before .loop-test .taken,
+        subst (λ (t : Term). FoundInside (x .bp .now) (x .bn .now) t (f .find-inside .result)) (m .term-at .ensures)
+            (f .find-inside .ensures),
+      ),
     )
 
 enum-known-next : tie.Need-enum-known-next Inv-loop μ-loop
@@ -139,7 +143,9 @@ same-length-2 c =
     p .list-one .kept .1 .0 ∙ sizes (turn p) false
 
 same-length-3 : tie.Need-same-length-3 Inv-loop μ-loop
-same-length-3 c = let p = c .before .before .before .before .before .before .before .before in p .list-one .kept .1 .1 .0 ∙ turn p .loop .inv .3
+same-length-3 c =
+    let p = c .before .before .before .before .before .before .before .before in
+    p .list-one .kept .1 .1 .0 ∙ turn p .loop .inv .3
 
 same-length-4 : tie.Need-same-length-4 Inv-loop μ-loop
 same-length-4 c = let p = c .before .before .before .before .before .before .before .before in turn p .loop .inv .2

@@ -23,9 +23,15 @@ use Rattle.pairing.proofs.pairs.step_high.Tie as tie
 add-hint-at : tie.Need-add-hint-at
 add-hint-at c = search needs
 
+-- the lent parts of the scratch
+abbrev lent : tie.After-settle-row-arg5 → tie.After-hint-at-arg
+lent c = c .before .before .before .before .before .before
+
+abbrev begun : tie.After-settle-row-arg5 → tie.Start
+begun c = lent c .before .before .before .before .before .before .before .before .before .before .before .before
+
 abbrev start : tie.After-settle-row → tie.Start
-start p =
-    p .before .before .before .before .before .before .before .before .before .before .before .before .before .before .before .before .before .before .before
+start p = begun (p .before)
 
 abbrev then : tie.After-settle-row → Bool → List ℕ
 then p = bySign (p .settle-row .last .0) (p .settle-row .last .1 .0)
@@ -34,13 +40,15 @@ then p = bySign (p .settle-row .last .0) (p .settle-row .last .1 .0)
 told : (p : tie.After-settle-row) (r : Growth) → p .settle-row .result ≡ r
     → let x = start p .args in
     let least : List Term = leastJoins (termsOf (x .bp .now) (x .bn .now)) (termsOf (x .ap .now) (x .an .now)) in
-    Grown least least (λ l. SettledFrom least l (termAt (x .bp .now) (x .bn .now) (x .turn .high .at)) (x .ap .now) (x .an .now) (x .turn .low .at))
+    let t : Term = termAt (x .bp .now) (x .bn .now) (x .turn .high .at) in
+    Grown least least (λ l. SettledFrom least l t (x .ap .now) (x .an .now) (x .turn .low .at))
     (bySign (x .positives .now) (x .negatives .now)) (x .turn .listed) (then p) (p .settle-row .last .1 .1 .0) r
 told p r e =
     let x = start p .args in
     let least : List Term = leastJoins (termsOf (x .bp .now) (x .bn .now)) (termsOf (x .ap .now) (x .an .now)) in
+    let t : Term = termAt (x .bp .now) (x .bn .now) (x .turn .high .at) in
     subst
-    (Grown least least (λ l. SettledFrom least l (termAt (x .bp .now) (x .bn .now) (x .turn .high .at)) (x .ap .now) (x .an .now) (x .turn .low .at))
+    (Grown least least (λ l. SettledFrom least l t (x .ap .now) (x .an .now) (x .turn .low .at))
     (bySign (x .positives .now) (x .negatives .now)) (x .turn .listed) (then p) (p .settle-row .last .1 .1 .0)) e (p .settle-row .ensures)
 
 hint-at-requires : tie.Need-hint-at-requires
@@ -62,8 +70,9 @@ slice-aggregate-settle-row-2 c =
 
 settle-row-requires : tie.Need-settle-row-requires
 settle-row-requires c κs =
-    let s = c .before .before .before .before .before .before .before .before .before .before .before .before .before .before .before .before .before .before in
-    (growing-turned (recounted (s .pre .0 .growing) (s .args .turn .high .cost)), (s .pre .0 .high-left, simp length-take (omega (arith, s .pre .1 .0))))
+    let s = begun c in
+    let growing = growing-turned (recounted (s .pre .0 .growing) (s .args .turn .high .cost)) in
+    (growing, (s .pre .0 .high-left, simp length-take (omega (arith, s .pre .1 .0))))
 
 enum-known-c : tie.Need-enum-known-c
 enum-known-c c = search needs
@@ -93,7 +102,8 @@ returns c =
 
 add-t20 : tie.Need-add-t20
 add-t20 c =
-    let q = start (c .before .before .before .before .before .before .before .before .before .before .before .before .before .before .before) .pre .0 in
+    let p = c .before .before .before .before .before .before .before .before .before .before .before .before .before .before .before in
+    let q = start p .pre .0 in
     omega (arith, q .high-left, q .growing .at .few-high)
 
 same-length-6 : tie.Need-same-length-6

@@ -19,9 +19,15 @@ use Rattle.pairing.proofs.Steps.{stepped-low, recounted}
 use Rattle.pairing.proofs.pairs.step_low.Statement.{statement}
 use Rattle.pairing.proofs.pairs.step_low.Tie as tie
 
+-- the lent parts of the scratch
+abbrev lent : tie.After-settle-row-arg5 → tie.After-hint-at-arg
+lent c = c .before .before .before .before .before .before
+
+abbrev begun : tie.After-settle-row-arg5 → tie.Start
+begun c = lent c .before .before .before .before .before .before .before .before .before .before .before .before
+
 abbrev start : tie.After-settle-row → tie.Start
-start p =
-    p .before .before .before .before .before .before .before .before .before .before .before .before .before .before .before .before .before .before .before
+start p = begun (p .before)
 
 abbrev then : tie.After-settle-row → Bool → List ℕ
 then p = bySign (p .settle-row .last .0) (p .settle-row .last .1 .0)
@@ -30,13 +36,15 @@ then p = bySign (p .settle-row .last .0) (p .settle-row .last .1 .0)
 told : (p : tie.After-settle-row) (r : Growth) → p .settle-row .result ≡ r
     → let x = start p .args in
     let least : List Term = leastJoins (termsOf (x .ap .now) (x .an .now)) (termsOf (x .bp .now) (x .bn .now)) in
-    Grown least least (λ l. SettledFrom least l (termAt (x .ap .now) (x .an .now) (x .turn .low .at)) (x .bp .now) (x .bn .now) (x .turn .high .at))
+    let t : Term = termAt (x .ap .now) (x .an .now) (x .turn .low .at) in
+    Grown least least (λ l. SettledFrom least l t (x .bp .now) (x .bn .now) (x .turn .high .at))
     (bySign (x .positives .now) (x .negatives .now)) (x .turn .listed) (then p) (p .settle-row .last .1 .1 .0) r
 told p r e =
     let x = start p .args in
     let least : List Term = leastJoins (termsOf (x .ap .now) (x .an .now)) (termsOf (x .bp .now) (x .bn .now)) in
+    let t : Term = termAt (x .ap .now) (x .an .now) (x .turn .low .at) in
     subst
-    (Grown least least (λ l. SettledFrom least l (termAt (x .ap .now) (x .an .now) (x .turn .low .at)) (x .bp .now) (x .bn .now) (x .turn .high .at))
+    (Grown least least (λ l. SettledFrom least l t (x .bp .now) (x .bn .now) (x .turn .high .at))
     (bySign (x .positives .now) (x .negatives .now)) (x .turn .listed) (then p) (p .settle-row .last .1 .1 .0)) e (p .settle-row .ensures)
 
 hint-at-requires : tie.Need-hint-at-requires
@@ -68,8 +76,9 @@ part-settle-row-end-2 c = search needs
 
 settle-row-requires : tie.Need-settle-row-requires
 settle-row-requires c κs =
-    let s = c .before .before .before .before .before .before .before .before .before .before .before .before .before .before .before .before .before .before in
-    (recounted (s .pre .0 .growing) (s .args .turn .low .cost), (s .pre .0 .low-left, simp (length-take, length-drop) (omega (arith, s .pre .1 .1))))
+    let s = begun c in
+    let growing = recounted (s .pre .0 .growing) (s .args .turn .low .cost) in
+    (growing, (s .pre .0 .low-left, simp (length-take, length-drop) (omega (arith, s .pre .1 .1))))
 
 enum-known-c : tie.Need-enum-known-c
 enum-known-c c = search needs

@@ -69,7 +69,9 @@ same-length-5 c = search needs
 returns-2 : tie.Need-returns-2
 returns-2 c =
     let k = c .before .before .before .before .before .before in
-    (told (k .before .before .before .before .before .before .before) (Count _) (k .before .c .given .1), still-more (c .before .before .before .before .if2 .taken) (c .before .before .put-kept .ensures))
+    let room = c .before .before .before .before .if2 .taken in
+    let p = k .before .before .before .before .before .before .before in
+    (told p (Count _) (k .before .c .given .1), still-more room (c .before .before .put-kept .ensures))
 
 same-length-6 : tie.Need-same-length-6
 same-length-6 c = search needs
@@ -80,7 +82,8 @@ same-length-7 c = search needs
 returns-3 : tie.Need-returns-3
 returns-3 c =
     let k = c .before .before in
-    (told (k .before .before .before .before .before .before .before) (Count _) (k .before .c .given .1), still-none (k .before .before .before .before .before .before .before .before .before .before .before .before .before .pre .1))
+    let p = k .before .before .before .before .before .before .before in
+    (told p (Count _) (k .before .c .given .1), still-none (p .before .before .before .before .before .before .pre .1))
 
 same-length-8 : tie.Need-same-length-8
 same-length-8 c = search needs
@@ -91,7 +94,8 @@ same-length-9 c = search needs
 returns-4 : tie.Need-returns-4
 returns-4 c =
     let k = c .before in
-    (told (k .before .before .before .before .before .before .before) (Count _) (k .before .c .given .1), still-none (k .before .before .before .before .before .before .before .before .before .before .before .before .before .pre .1))
+    let p = k .before .before .before .before .before .before .before in
+    (told p (Count _) (k .before .c .given .1), still-none (p .before .before .before .before .before .before .pre .1))
 
 pub keep-spec : {M : Type 1} → statement M
 keep-spec =

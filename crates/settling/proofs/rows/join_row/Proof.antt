@@ -8,7 +8,7 @@ use lib.ListN.{length, length-replicate}
 use Rattle.terms.specs.Term.{termsOf}
 use Rattle.terms.specs.declared.Term.{Term}
 use Rattle.lists.specs.Scans.{termAt}
-use Rattle.hints.specs.Scratch.{maxWords}
+use Rattle.hints.specs.Scratch.{maxWords, wordsFor, HasColumns}
 use Rattle.insertion.specs.Filled.{bySign}
 use Rattle.settling.specs.Growth.{Grown}
 use Rattle.settling.specs.Sides.{leastJoins, Settled}
@@ -22,12 +22,12 @@ use Rattle.settling.proofs.rows.join_row.Statement.{statement}
 use Rattle.settling.proofs.rows.join_row.Tie as tie
 
 abbrev Inv-loop : tie.InvT-loop
-Inv-loop positives₀ negatives₀ kept₀ hints₀ columns₀ ap an bp bn at made t words left₀ counts₀ j₀ positives negatives kept hints columns left counts j =
-    SoFar ap an bp bn (termAt ap an at) j₀ (bySign positives₀ negatives₀) (counts₀ .listed) (bySign positives negatives) kept counts j
+Inv-loop ps₀ ns₀ kept₀ hints₀ columns₀ ap an bp bn at made t words left₀ counts₀ j₀ ps ns kept hints columns left counts j =
+    SoFar ap an bp bn (termAt ap an at) j₀ (bySign ps₀ ns₀) (counts₀ .listed) (bySign ps ns) kept counts j
     × (length kept ≡ length kept₀) × (length left ≡ maxWords) × (length hints ≡ length hints₀) × (length columns ≡ length columns₀)
 
 abbrev μ-loop : tie.MeasureT-loop
-μ-loop positives₀ negatives₀ kept₀ hints₀ columns₀ ap an bp bn at made t words left₀ counts₀ j₀ positives negatives kept hints columns left counts j =
+μ-loop ps₀ ns₀ kept₀ hints₀ columns₀ ap an bp bn at made t words left₀ counts₀ j₀ ps ns kept hints columns left counts j =
     length bp - j
 
 abbrev Loop : Type 0
@@ -67,7 +67,8 @@ looked : (p : Tried) → let a = turn p in let x = start a .args in
 looked p =
     let a = turn p in
     let x = start a .args in
-    subst (λ (t : Term). Tries (a .loop .kept) (a .loop .counts .kept) t (termAt (x .bp .now) (x .bn .now) (a .loop .j)) (p .try-kept .result))
+    let u : Term = termAt (x .bp .now) (x .bn .now) (a .loop .j) in
+    subst (λ (t : Term). Tries (a .loop .kept) (a .loop .counts .kept) t u (p .try-kept .result))
     (a .before .before .term-at .ensures) (p .try-kept .ensures)
 
 -- what became of the pair
@@ -96,7 +97,8 @@ loop-holds : tie.Need-loop-holds Inv-loop μ-loop
 loop-holds c =
     let s = c .before .before .before .before .before .before .before .before .before .before .before .before in
     let x = s .args in
-    (so-far-start (s .pre .0) (termAt (x .ap .now) (x .an .now) (x .row .at)) (x .row .from) 0, refl, length-replicate {A = ℕ} maxWords 0, refl, refl)
+    let t : Term = termAt (x .ap .now) (x .an .now) (x .row .at) in
+    (so-far-start (s .pre .0) t (x .row .from) 0, refl, length-replicate {A = ℕ} maxWords 0, refl, refl)
 
 slice-aggregate-try-kept : tie.Need-slice-aggregate-try-kept Inv-loop μ-loop
 slice-aggregate-try-kept c = sym (c .before .before .before .before .before .loop .inv .2)
@@ -107,7 +109,8 @@ try-kept-requires c κs =
     let a = w .before in
     let h = a .loop .inv .0 in
     let g = start a .pre .0 in
-    (h .room, h .keeps .room, rw (a .loop .inv .4) (start a .pre .1 .1), a .loop .inv .2, g .at .even-high, g .at .few-high, w .loop-test .taken)
+    let fits : HasColumns (wordsFor (length (start a .args .bp .now))) (a .loop .columns) = rw (a .loop .inv .4) (start a .pre .1 .1) in
+    (h .room, h .keeps .room, fits, a .loop .inv .2, g .at .even-high, g .at .few-high, w .loop-test .taken)
 
 settle-requires : tie.Need-settle-requires Inv-loop μ-loop
 settle-requires c κs =
@@ -172,12 +175,14 @@ spread-new-requires c κs =
 
 add-j : tie.Need-add-j Inv-loop μ-loop
 add-j c =
-    let q = tried (c .before .before .before .before .before .before .before .before .before .before .before .before .before .before .before .before .before) in
+    let k = c .before .before .before .before .before .before .before .before in
+    let q = tried (k .before .before .before .before .before .before .before .before .before) in
     omega (arith, q .before .before .before .before .before .loop-test .taken, start (turn q) .pre .0 .at .few-high)
 
 loop-less : tie.Need-loop-less Inv-loop μ-loop
 loop-less c =
-    let q = tried (c .before .before .before .before .before .before .before .before .before .before .before .before .before .before .before .before .before) in
+    let k = c .before .before .before .before .before .before .before .before in
+    let q = tried (k .before .before .before .before .before .before .before .before .before) in
     omega (arith, q .before .before .before .before .before .loop-test .taken)
 
 loop-again : tie.Need-loop-again Inv-loop μ-loop

@@ -31,8 +31,8 @@ returns-2 c =
     let v = c .before in
     let j = v .before .before .before in
     let k = j .before .before in
-    tries-kept _ (k .before .term-at .ensures) _ _ _ (sym (k .conflict .ensures) ∙ j .before .if1 .left) (j .join .ensures) (v .covers .ensures)
-    (sym (c .if2 .taken))
+    tries-kept _ (k .before .term-at .ensures) _ _ _ (sym (k .conflict .ensures) ∙ j .before .if1 .left) (j .join .ensures)
+    (v .covers .ensures) (sym (c .if2 .taken))
 
 same-length-2 : tie.Need-same-length-2
 same-length-2 c = search needs
@@ -54,7 +54,8 @@ hint-at-requires-2 c κs = search needs
 
 covers-requires-2 : tie.Need-covers-requires-2
 covers-requires-2 c κs =
-    c .before .before .before .before .before .before .before .before .before .before .before .before .before .before .before .before .before .before .before .before .before .before .before .before .before .before .before .before .before .pre .1
+    let k = c .before .before .before .before .before .before .before .before .before .before .before .before .before .before .before in
+    k .before .before .before .before .before .before .before .before .before .before .before .before .before .before .pre .1
 
 same-length-3 : tie.Need-same-length-3
 same-length-3 c = search needs
@@ -67,7 +68,8 @@ same-length-5 c = search needs
 
 returns-4 : tie.Need-returns-4
 returns-4 c =
-    let j = c .before .before .before .before .before .before .before .before .before .before .before .before .before .before .before .before .before .before .before .before in
+    let m = c .before .before .before .before .before .before .before .before .before .before in
+    let j = m .before .before .before .before .before .before .before .before .before .before in
     let k = j .before .before in
     tries-kept _ (k .before .term-at .ensures) _ _ _ (sym (k .conflict .ensures) ∙ j .before .if1 .left) (j .join .ensures)
     (c .covers2 .ensures) refl

@@ -2,7 +2,7 @@
 use Prim.Native.Nat.{_<_}
 use mathlib.Core.Path.{_≡_, sym, ap₂, subst, _∙_}
 use mathlib.Core.Bool.{true}
-use mathlib.Core.List.{List·Memᴰ}
+use mathlib.Core.List.{List, List·Memᴰ}
 use native.Mathlib.Omega.{arith}
 use Rattle.terms.specs.Joins.{joins}
 use Rattle.terms.specs.Term.{literals, join, inside, termsOf}
@@ -72,7 +72,8 @@ join-requires c κs = search needs
 
 made : (c : tie.After-join Inv-loop μ-loop) → let k = c .before .before .before in
     let x = start (told k) .args in
-    c .join .result ≡ join (termAt (x .ap .now) (x .an .now) (k .before .k .given .0 .0)) (termAt (x .bp .now) (x .bn .now) (k .before .k .given .0 .1 .0))
+    let g = k .before .k .given .0 in
+    c .join .result ≡ join (termAt (x .ap .now) (x .an .now) (g .0)) (termAt (x .bp .now) (x .bn .now) (g .1 .0))
 made c = c .join .ensures ∙ ap₂ join (c .before .before .term-at .ensures) (c .before .term-at2 .ensures)
 
 loop-less : tie.Need-loop-less Inv-loop μ-loop
@@ -90,7 +91,8 @@ loop-again c =
     let l = turn (told k) .loop in
     let g = k .before .k .given .1 in
     let f = told k .find-shorter .ensures in
-    subst (λ (t : Term). List·Memᴰ t (joins (termsOf (x .ap .now) (x .an .now)) (termsOf (x .bp .now) (x .bn .now))) × (inside t (x .q) ≡ true))
+    let all : List Term = joins (termsOf (x .ap .now) (x .an .now)) (termsOf (x .bp .now) (x .bn .now)) in
+    subst (λ (t : Term). List·Memᴰ t all × (inside t (x .q) ≡ true))
     (sym (made c)) (next-join h _ _ (l .inv .0) _ _ g f, next-inside h _ _ (l .inv .0) _ _ g f _ (l .inv .1))
 
 pub strike-spec : {M : Type 1} → statement M

@@ -30,11 +30,13 @@ const FEW: usize = 64;
 // How many least joins of short sides are kept.
 const SOME: usize = 1024;
 
-// How many terms a short side has at most, one of middle length, and any.
+// How many terms a short side has at most.
 const SHORT: usize = 64;
 
+// How many terms a side of middle length has at most.
 const MIDDLE: usize = 512;
 
+// How many terms any side has at most.
 const LONG: usize = MAX_CAPACITY as usize;
 
 // How many columns two sides have.
@@ -119,7 +121,7 @@ fn has_few_joins(m: usize, n: usize, capacity: usize) -> bool
     m * n <= FEW
 }
 
-// With scratch for short sides and few least joins.
+// The terms of a decision, with scratch for short sides and few least joins.
 fn decide_few(
     positives: &mut [u64],
     negatives: &mut [u64],
@@ -153,7 +155,7 @@ fn decide_few(
     )
 }
 
-// With scratch for short sides.
+// The terms of a decision, with scratch for short sides.
 fn decide_short(
     positives: &mut [u64],
     negatives: &mut [u64],
@@ -187,7 +189,7 @@ fn decide_short(
     )
 }
 
-// With scratch for sides that are not long.
+// The terms of a decision, with scratch for sides of middle length.
 fn decide_middle(
     positives: &mut [u64],
     negatives: &mut [u64],
@@ -221,7 +223,7 @@ fn decide_middle(
     )
 }
 
-// With scratch for all sides.
+// The terms of a decision, with scratch for any sides.
 fn decide_long(
     positives: &mut [u64],
     negatives: &mut [u64],

@@ -13,18 +13,19 @@
  * capacity. An assignment is a mask: bit i is set where variable i is true (the fact is yes). A term is two masks: positive (marked
  * yes) and negative (marked no).
  *
- * Tables. A circuit is a table of uint32_t words, four a node: kind, variable, a, b. Node i is the four words from 4 * i on; the
- * last node is the whole circuit. Kinds: 0 false, 1 true, 2 yes, 3 no, 4 pick (a where the variable is false, b where it is true), 5
- * both. a and b are the numbers of the children of a pick or a both, lower than the node's own. Unused, and so 0: variable, a and b
- * of false and true; a and b of yes and no; variable of both.
+ * Tables. A circuit is a table of uint32_t words, eleven a node: kind, variable, number of children, and eight children. Node i is the
+ * eleven words from 11 * i on; the last node is the whole circuit. Kinds: 0 false, 1 true, 2 yes, 3 no, 4 pick (the first child where
+ * the variable is false, the second where it is true), 5 both (all of its children). A pick has 2 children, a both 2 to 8, the others
+ * 0. A child is the number of a node, lower than the node's own. Unused, and so 0: variable of false, true and both; the children past
+ * the number of children.
  *
  * Texts. A circuit text is made of lines, each ended by byte 10 (newline), the last one too. The first is (circuit N), N the number
  * of variables, 1 to 40. One or more lines follow, each a form:
- *     (true)  (false)  (yes V)  (no V)  (pick V F F)  (both F F)  (line K)
- * V is a variable, below N. F is a form. K is the number of an earlier line, the first after the header being 0. A whole line is
- * never (line K). One space stands between parts, none elsewhere. A number has one to four digits and no leading zero. Each form
- * makes one node, at its closing bracket: children first, the left before the right. Only (line K) makes none: it means the node of
- * line K's form. The last line is the circuit, and every other line is used by a later one.
+ *     (true)  (false)  (yes V)  (no V)  (pick V F F)  (both F F ...)  (line K)
+ * V is a variable, below N. F is a form; both has two to eight. K is the number of an earlier line, the first after the header being
+ * 0. A whole line is never (line K). One space stands between parts, none elsewhere. A number has one to four digits and no leading
+ * zero. Each form makes one node, at its closing bracket: children first, from left to right. Only (line K) makes none: it means the
+ * node of line K's form. The last line is the circuit, and every other line is used by a later one.
  */
 #ifndef QUELBRIFT_H
 #define QUELBRIFT_H
@@ -37,21 +38,22 @@ extern "C" {
 #endif
 
 /* The version. It is raised whenever this header or an answer of the archive changes. quelbrift_version() gives the archive's. */
-#define QUELBRIFT_VERSION 1
+#define QUELBRIFT_VERSION 2
 
 /* The limits. */
 #define QUELBRIFT_MAX_VARIABLES 40   /* the variables of a table: 1 to 40 */
 #define QUELBRIFT_MAX_NODES 1024     /* its nodes: 1 to 1,024 */
-#define QUELBRIFT_NODE_WORDS 4       /* the words of a node */
+#define QUELBRIFT_NODE_WORDS 11      /* the words of a node */
+#define QUELBRIFT_MAX_CHILDREN 8     /* the children of a both: 2 to 8 */
 #define QUELBRIFT_MAX_CAPACITY 4096  /* the capacity (room) of a listing: 0 to 4,096 */
-#define QUELBRIFT_MAX_TEXT 40000     /* at most so many bytes in a circuit text */
+#define QUELBRIFT_MAX_TEXT 110000    /* at most so many bytes in a circuit text */
 #define QUELBRIFT_MAX_DEPTH 16       /* and brackets at most so deep */
 #define QUELBRIFT_MAX_LINE 117       /* the bytes of the longest stow line that is accepted */
 
 /*
  * How many elements a buffer needs. No call needs more than:
- *     words                    QUELBRIFT_WORDS(QUELBRIFT_MAX_NODES), 4,096
- *     sink                     QUELBRIFT_MAX_TEXT, 40,000: every well-formed table's text fits
+ *     words                    QUELBRIFT_WORDS(QUELBRIFT_MAX_NODES), 11,264
+ *     sink                     QUELBRIFT_MAX_TEXT, 110,000: every well-formed table's text fits; the longest has 96,511 bytes
  *     positives and negatives  QUELBRIFT_ENTRIES(QUELBRIFT_MAX_NODES, QUELBRIFT_MAX_CAPACITY), 4,194,304 each (32 MiB each)
  *     counts                   QUELBRIFT_MAX_NODES, 1,024
  */
@@ -74,7 +76,7 @@ typedef struct {
 enum {
     QUELBRIFT_DONE = 0,
     /* of a circuit text, with the byte */
-    QUELBRIFT_LENGTH = 10,    /* over 40,000 bytes; the place is 40,000 */
+    QUELBRIFT_LENGTH = 10,    /* over 110,000 bytes; the place is 110,000 */
     QUELBRIFT_SHAPE = 11,     /* wrong shape, at this byte, or at the end where more is needed; whatever the numbers and the depth are */
     QUELBRIFT_RANGE = 12,     /* a number of variables or a variable out of range; the byte after the number */
     QUELBRIFT_REFERENCE = 13, /* not the number of an earlier line; the byte after the number */
@@ -83,10 +85,12 @@ enum {
     /* of a sink, with the needed length */
     QUELBRIFT_SINK = 16,
     /* of a table, with the lowest node */
-    QUELBRIFT_SIZES = 21,          /* variables not 1 to 40, nodes not 1 to 1,024, or fewer than 4 * nodes words; node 0 */
-    QUELBRIFT_MALFORMED = 22,      /* a kind above 5, a variable out of range, a child not below its parent, an unused word not 0 */
+    QUELBRIFT_SIZES = 21,          /* variables not 1 to 40, nodes not 1 to 1,024, or fewer than 11 * nodes words; node 0 */
+    QUELBRIFT_MALFORMED = 22,      /* a kind above 5, a variable out of range, a number of children that the kind does not allow, a
+                                      child not below its parent, an unused word not 0 */
     QUELBRIFT_PARENTLESS = 23,     /* a node, not the last, that is nobody's child */
-    QUELBRIFT_UNDECOMPOSABLE = 24, /* a both with a variable under both children, or a pick with its own variable under a child */
+    QUELBRIFT_UNDECOMPOSABLE = 24, /* a both with a variable under two children, or a pick with its own variable under a child; one
+                                      child in two places counts as two */
     QUELBRIFT_UNREDUCED = 25,      /* a both with a false child, or a pick with two false children */
     /* of the question; the place is 0 */
     QUELBRIFT_ASSIGNMENT = 31,  /* a bit at the number of variables or above */
@@ -114,7 +118,7 @@ static inline const char *quelbrift_text(uint32_t number)
     case QUELBRIFT_SIZES: return "facts, nodes or words are out of range";
     case QUELBRIFT_MALFORMED: return "a node is malformed";
     case QUELBRIFT_PARENTLESS: return "a node is nobody's child";
-    case QUELBRIFT_UNDECOMPOSABLE: return "a fact is where it must not be: under both children, or under its own pick";
+    case QUELBRIFT_UNDECOMPOSABLE: return "a fact is where it must not be: under two children, or under its own pick";
     case QUELBRIFT_UNREDUCED: return "a child is false that must not be";
     case QUELBRIFT_ASSIGNMENT: return "the stow has a fact out of range";
     case QUELBRIFT_NOT_TERM: return "the row has a fact out of range, or one marked both yes and no";
@@ -131,7 +135,7 @@ static inline const char *quelbrift_text(uint32_t number)
 uint32_t quelbrift_version(void);
 
 /*
- * Reads a circuit text into words: at most 1,024 nodes, and at most words_length / 4, rounded down. Reading does not check the table:
+ * Reads a circuit text into words: at most 1,024 nodes, and at most words_length / 11, rounded down. Reading does not check the table:
  * what is read can still be refused by 23, 24 or 25 (quelbrift_check). Read up to QUELBRIFT_MAX_TEXT + 1 bytes from a file, so that a
  * longer text is refused by 10.
  * Done: first is the number of variables, second the number of nodes; the words past the nodes are 0.

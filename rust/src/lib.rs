@@ -8,14 +8,15 @@ mod refusal;
 pub use refusal::{Place, Refusal};
 
 /// The version that this wrapper is written for; `version` gives the archive's.
-pub const VERSION: u32 = 1;
+pub const VERSION: u32 = 2;
 
 /// The limits of the header.
 pub const MAX_VARIABLES: u32 = 40;
 pub const MAX_NODES: u32 = 1024;
-pub const NODE_WORDS: usize = 4;
+pub const NODE_WORDS: usize = 11;
+pub const MAX_CHILDREN: u32 = 8;
 pub const MAX_CAPACITY: u32 = 4096;
-pub const MAX_TEXT: usize = 40_000;
+pub const MAX_TEXT: usize = 110_000;
 pub const MAX_DEPTH: u32 = 16;
 pub const MAX_LINE: usize = 117;
 
@@ -26,7 +27,7 @@ pub struct Term {
     pub negative: u64,
 }
 
-/// A table as it is lent to an operation.
+/// A table as it is lent to an operation: `NODE_WORDS` words a node.
 #[derive(Clone, Copy, Debug)]
 pub struct Table<'a> {
     pub words: &'a [u32],

@@ -43,7 +43,7 @@ impl Refusal {
             21 => "facts, nodes or words are out of range",
             22 => "a node is malformed",
             23 => "a node is nobody's child",
-            24 => "a fact is where it must not be: under both children, or under its own pick",
+            24 => "a fact is where it must not be: under two children, or under its own pick",
             25 => "a child is false that must not be",
             31 => "the stow has a fact out of range",
             32 => "the row has a fact out of range, or one marked both yes and no",

@@ -40,6 +40,7 @@ fn limits_are_those_of_the_header() {
     assert_eq!(u64::from(quelbrift::MAX_VARIABLES), limit("MAX_VARIABLES"));
     assert_eq!(u64::from(quelbrift::MAX_NODES), limit("MAX_NODES"));
     assert_eq!(quelbrift::NODE_WORDS as u64, limit("NODE_WORDS"));
+    assert_eq!(u64::from(quelbrift::MAX_CHILDREN), limit("MAX_CHILDREN"));
     assert_eq!(u64::from(quelbrift::MAX_CAPACITY), limit("MAX_CAPACITY"));
     assert_eq!(quelbrift::MAX_TEXT as u64, limit("MAX_TEXT"));
     assert_eq!(u64::from(quelbrift::MAX_DEPTH), limit("MAX_DEPTH"));

@@ -42,41 +42,62 @@ static void expect_answer(quelbrift_answer is, quelbrift_answer expected, const 
 #define EXPECT_REFUSED(answer, number, place) EXPECT_ANSWER(answer, number, place, 0, 0)
 #define LENGTH(array) (sizeof(array) / sizeof *(array))
 
-/* A table and its refusal by the check, if any. */
+/* A table, its words node by node, and its refusal by the check, if any. */
 typedef struct {
     uint32_t variables;
     uint32_t nodes;
     size_t length;
-    uint32_t words[20];
+    uint32_t words[11][11];
     uint32_t number;
     uint64_t place;
 } table;
 
 /* (pick 0 (no 1) (pick 1 (yes 2) (true))): 5 models, clearances -0 -1, +0 +1, +0 +2, -1 +2. */
-static const table worked = {3, 5, 20, {3, 1, 0, 0, 2, 2, 0, 0, 1, 0, 0, 0, 4, 1, 1, 2, 4, 0, 0, 3}, 0, 0};
+static const table worked = {3, 5, 55, {{3, 1}, {2, 2}, {1}, {4, 1, 2, 1, 2}, {4, 0, 2, 0, 3}}, 0, 0};
 static const char worked_nested[] = "(circuit 3)\n(pick 0 (no 1) (pick 1 (yes 2) (true)))\n";
 static const char worked_lines[] =
     "(circuit 3)\n(no 1)\n(yes 2)\n(true)\n(pick 1 (line 1) (line 2))\n(pick 0 (line 0) (line 3))\n";
 
+/* A conjunction of eight: 3 models, clearances +0 +1 and +0 +2, each with -3 to -8. */
+static const table eight = {
+    9, 11, 121,
+    {{2, 0}, {2, 2}, {1}, {4, 1, 2, 1, 2}, {3, 3}, {3, 4}, {3, 5}, {3, 6}, {3, 7}, {3, 8}, {5, 0, 8, 0, 3, 4, 5, 6, 7, 8, 9}}, 0, 0};
+static const char eight_nested[] =
+    "(circuit 9)\n(both (yes 0) (pick 1 (yes 2) (true)) (no 3) (no 4) (no 5) (no 6) (no 7) (no 8))\n";
+static const char eight_lines[] =
+    "(circuit 9)\n(yes 0)\n(yes 2)\n(true)\n(pick 1 (line 1) (line 2))\n(no 3)\n(no 4)\n(no 5)\n(no 6)\n(no 7)\n(no 8)\n"
+    "(both (line 0) (line 3) (line 4) (line 5) (line 6) (line 7) (line 8) (line 9))\n";
+
 static const table refused[] = {
-    {0, 1, 4, {1}, QUELBRIFT_SIZES, 0},
-    {41, 1, 4, {1}, QUELBRIFT_SIZES, 0},
-    {1, 0, 4, {1}, QUELBRIFT_SIZES, 0},
-    {1, 1025, 20, {1}, QUELBRIFT_SIZES, 0},
-    {1, UINT32_MAX, 20, {1}, QUELBRIFT_SIZES, 0},
-    {1, 2, 7, {1}, QUELBRIFT_SIZES, 0},
-    {1, 1, 4, {6}, QUELBRIFT_MALFORMED, 0},
-    {1, 2, 8, {1, 0, 0, 0, 2, 1}, QUELBRIFT_MALFORMED, 1},
-    {1, 2, 8, {1, 0, 0, 0, 5, 0, 0, 1}, QUELBRIFT_MALFORMED, 1},
-    {1, 2, 8, {1, 0, 0, 1, 5}, QUELBRIFT_MALFORMED, 0},
-    {1, 2, 8, {2, 0, 0, 0, 3}, QUELBRIFT_PARENTLESS, 0},
-    {1, 3, 12, {2, 0, 0, 0, 3, 0, 0, 0, 5, 0, 0, 1}, QUELBRIFT_UNDECOMPOSABLE, 2},
-    {1, 3, 12, {2, 0, 0, 0, 1, 0, 0, 0, 4, 0, 0, 1}, QUELBRIFT_UNDECOMPOSABLE, 2},
-    {1, 3, 12, {0, 0, 0, 0, 0, 0, 0, 0, 4, 0, 0, 1}, QUELBRIFT_UNREDUCED, 2},
-    {1, 3, 12, {0, 0, 0, 0, 1, 0, 0, 0, 5, 0, 0, 1}, QUELBRIFT_UNREDUCED, 2},
+    {0, 1, 11, {{1}}, QUELBRIFT_SIZES, 0},
+    {41, 1, 11, {{1}}, QUELBRIFT_SIZES, 0},
+    {1, 0, 11, {{1}}, QUELBRIFT_SIZES, 0},
+    {1, 1025, 110, {{1}}, QUELBRIFT_SIZES, 0},
+    {1, UINT32_MAX, 110, {{1}}, QUELBRIFT_SIZES, 0},
+    {1, 2, 21, {{1}}, QUELBRIFT_SIZES, 0},
+    {1, 1, 11, {{6}}, QUELBRIFT_MALFORMED, 0},
+    {1, 2, 22, {{1}, {2, 1}}, QUELBRIFT_MALFORMED, 1},
+    {1, 2, 22, {{1}, {5, 0, 2, 0, 1}}, QUELBRIFT_MALFORMED, 1},
+    {1, 2, 22, {{1}, {5, 0, 8, 0, 0, 0, 0, 0, 0, 0, 1}}, QUELBRIFT_MALFORMED, 1},
+    {1, 2, 22, {{1}, {5, 0, 7, 0, 0, 0, 0, 0, 0, 0, 1}}, QUELBRIFT_MALFORMED, 1},
+    {1, 2, 22, {{1}, {5}}, QUELBRIFT_MALFORMED, 1},
+    {1, 2, 22, {{1}, {5, 0, 1}}, QUELBRIFT_MALFORMED, 1},
+    {1, 2, 22, {{1}, {5, 0, 9}}, QUELBRIFT_MALFORMED, 1},
+    {1, 2, 22, {{1}, {5, 0, UINT32_MAX}}, QUELBRIFT_MALFORMED, 1},
+    {1, 2, 22, {{1}, {4, 0, 1}}, QUELBRIFT_MALFORMED, 1},
+    {1, 2, 22, {{1}, {4, 0, 3}}, QUELBRIFT_MALFORMED, 1},
+    {1, 2, 22, {{1, 0, 1}, {5, 0, 2}}, QUELBRIFT_MALFORMED, 0},
+    {1, 2, 22, {{1, 0, 0, 1}, {5, 0, 2}}, QUELBRIFT_MALFORMED, 0},
+    {1, 2, 22, {{2}, {3}}, QUELBRIFT_PARENTLESS, 0},
+    {1, 3, 33, {{2}, {3}, {5, 0, 2, 0, 1}}, QUELBRIFT_UNDECOMPOSABLE, 2},
+    {1, 3, 33, {{2}, {1}, {5, 0, 3, 0, 1, 0}}, QUELBRIFT_UNDECOMPOSABLE, 2},
+    {1, 3, 33, {{2}, {1}, {4, 0, 2, 0, 1}}, QUELBRIFT_UNDECOMPOSABLE, 2},
+    {1, 3, 33, {{0}, {0}, {4, 0, 2, 0, 1}}, QUELBRIFT_UNREDUCED, 2},
+    {1, 3, 33, {{0}, {1}, {5, 0, 2, 0, 1}}, QUELBRIFT_UNREDUCED, 2},
+    {1, 3, 33, {{1}, {0}, {5, 0, 3, 0, 0, 1}}, QUELBRIFT_UNREDUCED, 2},
 };
 
-#define TABLE(table) (table)->words, (table)->length, (table)->variables, (table)->nodes
+#define TABLE(table) (const uint32_t *)(table)->words, (table)->length, (table)->variables, (table)->nodes
 #define FOR_EACH_REFUSED(row) \
     for (const table *row = refused; call = (size_t)(row - refused), row < refused + LENGTH(refused); row++)
 
@@ -101,27 +122,31 @@ typedef struct {
 
 static const char seventeen_deep[] =
     "(circuit 1)\n(both (both (both (both (both (both (both (both (both (both (both (both (both (both (both (both (true)";
+static const char nine_forms[] =
+    "(circuit 1)\n(true)\n(both (line 0) (line 0) (line 0) (line 0) (line 0) (line 0) (line 0) (line 0) (line 0))\n";
 
 static const refused_text refused_texts[] = {
-    {"", 8, QUELBRIFT_SHAPE, 0},
-    {"(circuit 1)\n", 8, QUELBRIFT_SHAPE, 12},
-    {"(circuit 1)\n(line 0)\n", 8, QUELBRIFT_SHAPE, 13},
-    {"(circuit 07)\n(true)\n", 8, QUELBRIFT_SHAPE, 10},
-    {"(circuit 12345)\n(true)\n", 8, QUELBRIFT_SHAPE, 13},
-    {"(circuit 1)\n(true)", 8, QUELBRIFT_SHAPE, 18},
-    {"(circuit 41)\n(true)\n", 8, QUELBRIFT_RANGE, 11},
-    {"(circuit 0)\n(true)\n", 8, QUELBRIFT_RANGE, 10},
+    {"", 22, QUELBRIFT_SHAPE, 0},
+    {"(circuit 1)\n", 22, QUELBRIFT_SHAPE, 12},
+    {"(circuit 1)\n(line 0)\n", 22, QUELBRIFT_SHAPE, 13},
+    {"(circuit 07)\n(true)\n", 22, QUELBRIFT_SHAPE, 10},
+    {"(circuit 12345)\n(true)\n", 22, QUELBRIFT_SHAPE, 13},
+    {"(circuit 1)\n(true)", 22, QUELBRIFT_SHAPE, 18},
+    {"(circuit 1)\n(both (true))\n", 22, QUELBRIFT_SHAPE, 24},
+    {nine_forms, 22, QUELBRIFT_SHAPE, 24 + 8 * 9},
+    {"(circuit 41)\n(true)\n", 22, QUELBRIFT_RANGE, 11},
+    {"(circuit 0)\n(true)\n", 22, QUELBRIFT_RANGE, 10},
     {"(circuit 3)\n(yes 3)\n", 0, QUELBRIFT_RANGE, 18},
-    {"(circuit 3)\n(both (line 0) (true))\n", 8, QUELBRIFT_REFERENCE, 25},
-    {seventeen_deep, 8, QUELBRIFT_DEPTH, 12 + 16 * 6},
-    {"(circuit 3)\n(yes 2)\n", 3, QUELBRIFT_NODES, 18},
-    {"(circuit 3)\n(true)\n(true)\n(true)\n", 8, QUELBRIFT_NODES, 31},
+    {"(circuit 3)\n(both (line 0) (true))\n", 22, QUELBRIFT_REFERENCE, 25},
+    {seventeen_deep, 22, QUELBRIFT_DEPTH, 12 + 16 * 6},
+    {"(circuit 3)\n(yes 2)\n", 10, QUELBRIFT_NODES, 18},
+    {"(circuit 3)\n(true)\n(true)\n(true)\n", 32, QUELBRIFT_NODES, 31},
 };
 
 static void check_read_refusals(void)
 {
-    static char longest[40001];
-    uint32_t words[12];
+    static char longest[110001];
+    uint32_t words[33];
     for (call = 0; call < LENGTH(refused_texts); call++) {
         const refused_text *row = &refused_texts[call];
         memset(words, 0xa5, sizeof words);
@@ -130,22 +155,22 @@ static void check_read_refusals(void)
         EXPECT(all_bytes(words + row->words, sizeof words - row->words * sizeof *words, 0xa5));
     }
     memset(words, 0xa5, sizeof words);
-    EXPECT_REFUSED(quelbrift_read((const uint8_t *)longest, 40001, words, 11), QUELBRIFT_LENGTH, 40000);
-    EXPECT_REFUSED(quelbrift_read((const uint8_t *)longest, 40000, words, 11), QUELBRIFT_SHAPE, 0);
-    EXPECT(all_bytes(words, 11 * sizeof *words, 0));
-    EXPECT(words[11] == 0xa5a5a5a5u);
+    EXPECT_REFUSED(quelbrift_read((const uint8_t *)longest, 110001, words, 32), QUELBRIFT_LENGTH, 110000);
+    EXPECT_REFUSED(quelbrift_read((const uint8_t *)longest, 110000, words, 32), QUELBRIFT_SHAPE, 0);
+    EXPECT(all_bytes(words, 32 * sizeof *words, 0));
+    EXPECT(words[32] == 0xa5a5a5a5u);
 }
 
 static void check_read(void)
 {
-    uint32_t words[24];
+    uint32_t words[66];
     const char *const texts[] = {worked_nested, worked_lines};
     for (call = 0; call < LENGTH(texts); call++) {
         memset(words, 0xa5, sizeof words);
-        EXPECT_DONE(quelbrift_read((const uint8_t *)texts[call], strlen(texts[call]), words, 23), 3, 5);
-        EXPECT(memcmp(words, worked.words, sizeof worked.words) == 0);
-        EXPECT(all_bytes(words + 20, 3 * sizeof *words, 0));
-        EXPECT(words[23] == 0xa5a5a5a5u);
+        EXPECT_DONE(quelbrift_read((const uint8_t *)texts[call], strlen(texts[call]), words, 65), 3, 5);
+        EXPECT(memcmp(words, worked.words, 55 * sizeof *words) == 0);
+        EXPECT(all_bytes(words + 55, 10 * sizeof *words, 0));
+        EXPECT(words[65] == 0xa5a5a5a5u);
     }
     check_read_refusals();
 }
@@ -177,7 +202,7 @@ static void check_write_unaccepted(void)
 {
     FOR_EACH_REFUSED(row) {
         uint8_t sink[128];
-        uint32_t words[20];
+        uint32_t words[121];
         if (row->number > QUELBRIFT_MALFORMED) {
             quelbrift_answer written = quelbrift_write(TABLE(row), sink, sizeof sink);
             EXPECT(written.number == QUELBRIFT_DONE);
@@ -213,7 +238,7 @@ static void check_evaluate(void)
 
 static void check_count_models(void)
 {
-    const table all = {40, 1, 4, {1}, 0, 0};
+    const table all = {40, 1, 11, {{1}}, 0, 0};
     EXPECT_DONE(quelbrift_count_models(TABLE(&worked)), 5, 0);
     EXPECT_DONE(quelbrift_count_models(TABLE(&all)), (uint64_t)1 << 40, 0);
     FOR_EACH_REFUSED(row) {
@@ -265,7 +290,7 @@ static void check_reduce(void)
 typedef struct {
     uint64_t positives[32];
     uint64_t negatives[32];
-    uint32_t counts[8];
+    uint32_t counts[12];
 } buffers;
 
 static quelbrift_answer list(buffers *lent, const table *circuit, uint32_t capacity, size_t rows, size_t negatives, size_t counts)
@@ -302,7 +327,7 @@ static void check_list(void)
 
 static void check_list_refusals(void)
 {
-    const table never = {1, 1, 4, {0}, 0, 0}, always = {1, 1, 4, {1}, 0, 0};
+    const table never = {1, 1, 11, {{0}}, 0, 0}, always = {1, 1, 11, {{1}}, 0, 0};
     buffers lent;
     EXPECT_REFUSED(list(&lent, &worked, 3, 15, 16, 5), QUELBRIFT_CAPACITY, 0);
     EXPECT(zeroed(&lent, 15, 5));
@@ -320,6 +345,36 @@ static void check_list_refusals(void)
         EXPECT_REFUSED(list(&lent, row, 4097, 0, 0, 0), row->number, row->place);
         EXPECT(all_bytes(&lent, sizeof lent, 0xa5));
     }
+}
+
+/* Every operation on the conjunction of eight. */
+static void check_eight(void)
+{
+    static const uint64_t positives[22] = {1, 0, 4, 0, 0, 0, 2, 4, 0, 0, 0, 0, 0, 0, 0, 0, 0, 0, 0, 0, 3, 5};
+    static const uint64_t negatives[22] = {0, 0, 0, 0, 0, 0, 0, 0, 8, 0, 16, 0, 32, 0, 64, 0, 128, 0, 256, 0, 0x1f8, 0x1f8};
+    static const uint32_t counts[11] = {1, 1, 1, 2, 1, 1, 1, 1, 1, 1, 2};
+    uint32_t words[121];
+    uint8_t sink[sizeof eight_lines - 1];
+    buffers lent;
+    EXPECT_DONE(quelbrift_read((const uint8_t *)eight_nested, sizeof eight_nested - 1, words, 121), 9, 11);
+    EXPECT(memcmp(words, eight.words, sizeof words) == 0);
+    EXPECT_DONE(quelbrift_write(TABLE(&eight), sink, sizeof sink), sizeof sink, 0);
+    EXPECT(memcmp(sink, eight_lines, sizeof sink) == 0);
+    EXPECT_DONE(quelbrift_check(TABLE(&eight)), 0, 0);
+    EXPECT_DONE(quelbrift_evaluate(TABLE(&eight), 7), 1, 0);
+    EXPECT_DONE(quelbrift_evaluate(TABLE(&eight), 7 + 256), 0, 0);
+    EXPECT_DONE(quelbrift_count_models(TABLE(&eight)), 3, 0);
+    EXPECT_DONE(quelbrift_implies(TABLE(&eight), 3, 0x1f8), 1, 0);
+    EXPECT_DONE(quelbrift_implies(TABLE(&eight), 3, 0x0f8), 0, 0);
+    EXPECT_DONE(quelbrift_is_prime(TABLE(&eight), 3, 0x1f8), 1, 0);
+    EXPECT_DONE(quelbrift_is_prime(TABLE(&eight), 7, 0x1f8), 0, 0);
+    EXPECT_DONE(quelbrift_reduce(TABLE(&eight), 7), 5, 0x1f8);
+    EXPECT_DONE(list(&lent, &eight, 2, 22, 22, 11), 0, 0);
+    EXPECT(memcmp(lent.positives, positives, sizeof positives) == 0);
+    EXPECT(memcmp(lent.negatives, negatives, sizeof negatives) == 0);
+    EXPECT(memcmp(lent.counts, counts, sizeof counts) == 0);
+    EXPECT_REFUSED(list(&lent, &eight, 1, 11, 11, 11), QUELBRIFT_CAPACITY, 0);
+    EXPECT(zeroed(&lent, 11, 11));
 }
 
 static void check_view(void)
@@ -400,6 +455,7 @@ int main(void)
     run(check_reduce);
     run(check_list);
     run(check_list_refusals);
+    run(check_eight);
     run(check_view);
     run(check_read_assignment);
     run(check_version);

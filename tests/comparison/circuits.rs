@@ -1,6 +1,7 @@
-//! Random tables that are accepted: every kind, shared children, a child that serves twice, deep nesting, constants.
+//! Random tables that are accepted: every kind, conjunctions of two to eight, shared children, a child that serves twice, deep nesting,
+//! constants.
 
-use crate::oracle::table::{in_order, reachable, supports, Node, Table};
+use crate::oracle::table::{in_order, reachable, supports, Node, Table, MOST_CHILDREN};
 use crate::random::Random;
 
 /// The same circuit with its nodes in another order, children first.
@@ -23,6 +24,31 @@ pub fn scattered(random: &Random, nodes: &[Node], variables: u32) -> Vec<Node> {
     let mut places: Vec<u32> = (0..variables).collect();
     random.shuffle(&mut places);
     nodes.iter().map(|node| node.renamed(|variable| places[variable as usize], |child| child)).collect()
+}
+
+/// The same circuit with each conjunction as a chain of conjunctions of two; and for each node the one that it has become.
+pub fn chained(random: &Random, nodes: &[Node]) -> (Vec<Node>, Vec<u32>) {
+    let (mut chained, mut places): (Vec<Node>, Vec<u32>) = (vec![], vec![]);
+    for node in nodes {
+        match node.renamed(|variable| variable, |child| places[child as usize]) {
+            Node::Both(children) => {
+                let mut whole = children[0];
+                for &child in &children[1..] {
+                    chained.push(Node::Both(if random.once_in(2) { vec![whole, child] } else { vec![child, whole] }));
+                    whole = chained.len() as u32 - 1;
+                }
+            }
+            other => chained.push(other),
+        }
+        places.push(chained.len() as u32 - 1);
+    }
+    (chained, places)
+}
+
+/// A number of children of a `both`: two, one more, as many as there can be, or any.
+pub fn number_of_children(random: &Random) -> usize {
+    let any = 2 + random.position(MOST_CHILDREN - 1);
+    random.choose(&[2, 2, 3, MOST_CHILDREN, any, any])
 }
 
 /// Builds a circuit from the top: each part gets the variables that it may name.
@@ -79,14 +105,21 @@ impl Builder<'_> {
         self.pick(allowed, depth)
     }
 
+    /// The children share the allowed variables out; one with no variable under it serves again at times.
     fn both(&mut self, allowed: u64, depth: u32) -> u32 {
-        let left = allowed & self.random.next();
-        let a = self.satisfiable(left, depth - 1);
-        let b = match supports(&self.nodes)[a as usize] {
-            0 if self.random.once_in(2) => a,
-            _ => self.satisfiable(allowed & !left, depth - 1),
-        };
-        self.push(Node::Both(a, b))
+        let (mut left, mut children): (u64, Vec<u32>) = (allowed, vec![]);
+        for more in (0..number_of_children(self.random)).rev() {
+            let supports = supports(&self.nodes);
+            let constant = children.iter().copied().find(|&child| supports[child as usize] == 0);
+            let own = if more == 0 { left } else { left & self.random.next() };
+            children.push(match constant {
+                Some(child) if self.random.once_in(2) => child,
+                _ => self.satisfiable(own, depth - 1),
+            });
+            left &= !own;
+        }
+        self.random.shuffle(&mut children);
+        self.push(Node::Both(children))
     }
 
     fn pick(&mut self, allowed: u64, depth: u32) -> u32 {
@@ -161,30 +194,69 @@ pub fn chain(random: &Random, variables: u32, length: u64) -> Vec<Node> {
                 free.pop();
                 Node::Pick(variable, last, if random.once_in(3) { last } else { any })
             }
-            _ if constant && random.once_in(2) => Node::Both(any, last),
-            _ => Node::Both(last, 0),
+            _ => {
+                let mut children = vec![0; number_of_children(random)];
+                children[0] = last;
+                if constant {
+                    children[1] = any;
+                }
+                random.shuffle(&mut children);
+                Node::Both(children)
+            }
         };
         nodes.push(node);
     }
     reachable(&nodes)
 }
 
-/// Conjunction of two circuits over different variables: the second one's are moved up by the first one's.
-pub fn conjunction(first: &[Node], second: &[Node], moved: u32) -> Vec<Node> {
-    let start = first.len() as u32;
-    let mut nodes = first.to_vec();
-    nodes.extend(second.iter().map(|node| node.renamed(|variable| variable + moved, |child| child + start)));
-    nodes.push(Node::Both(start - 1, start + second.len() as u32 - 1));
-    nodes
+/// A circuit, and how many variables it is over.
+pub type Part = (u32, Vec<Node>);
+
+/// One conjunction of two to eight circuits over different variables: each one's are moved up by those of the ones before.
+pub fn conjunction(parts: &[Part]) -> Part {
+    let (mut moved, mut nodes, mut children): (u32, Vec<Node>, Vec<u32>) = (0, vec![], vec![]);
+    for (variables, part) in parts {
+        let start = nodes.len() as u32;
+        nodes.extend(part.iter().map(|node| node.renamed(|variable| variable + moved, |child| child + start)));
+        children.push(nodes.len() as u32 - 1);
+        moved += variables;
+    }
+    nodes.push(Node::Both(children));
+    (moved, nodes)
+}
+
+/// One conjunction of that many circuits, each true where at least one of its variables is, and `true` in all places left.
+pub fn clauses(number: usize, variables: u32) -> Part {
+    let mut parts = vec![(variables, symmetric(variables, u64::MAX - 1)); number];
+    parts.resize(MOST_CHILDREN, (0, vec![Node::True]));
+    conjunction(&parts)
+}
+
+/// A circuit over that many variables, or none, whose node is not `false`.
+pub fn satisfiable(random: &Random, variables: u32) -> Part {
+    let nodes = match variables {
+        0 => vec![Node::True],
+        1 => vec![random.choose(&[Node::Yes(0), Node::No(0), Node::True])],
+        _ => nodes(random, variables),
+    };
+    (variables, if nodes.last() == Some(&Node::False) { vec![Node::True] } else { nodes })
+}
+
+/// One conjunction of two to eight circuits that share the variables out as evenly as can be.
+pub fn parted(random: &Random, variables: u32) -> Vec<Node> {
+    let number = number_of_children(random) as u32;
+    let sizes = (0..number).map(|place| (variables + place) / number);
+    conjunction(&sizes.map(|size| satisfiable(random, size)).collect::<Vec<Part>>()).1
 }
 
 /// A random accepted circuit over that many variables, of any of the kinds above.
 pub fn nodes(random: &Random, variables: u32) -> Vec<Node> {
-    let nodes = match random.below(10) {
+    let nodes = match random.below(12) {
         0..=4 => built(random, variables, random.between(0, 9) as u32),
         5..=7 => layered(random, variables, random.between(1, 5)),
         8 => symmetric(variables, random.next()),
-        _ => chain(random, variables, random.between(1, 25)),
+        9 => chain(random, variables, random.between(1, 25)),
+        _ => parted(random, variables),
     };
     match random.below(3) {
         0 => reordered(random, &nodes),
@@ -197,7 +269,7 @@ pub fn nodes(random: &Random, variables: u32) -> Vec<Node> {
 pub fn table(random: &Random, variables: u32) -> Table {
     let mut table = Table::of(variables, &nodes(random, variables));
     if random.once_in(3) {
-        let surplus = random.between(1, 9);
+        let surplus = random.between(1, 15);
         table.words.extend((0..surplus).map(|_| random.next() as u32));
     }
     table

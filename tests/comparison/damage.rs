@@ -1,7 +1,7 @@
 //! Tables that are nearly accepted, and noise.
 
 use crate::circuits;
-use crate::oracle::table::{reachable, Node, Table};
+use crate::oracle::table::{reachable, Node, Table, MOST_CHILDREN, NODE_WORDS};
 use crate::random::Random;
 
 /// A number that is likely to lie at some limit of the table.
@@ -32,19 +32,43 @@ fn change_word(random: &Random, table: &mut Table) {
     };
 }
 
-/// Changes a child to another node below, or a variable to another one: the table stays well-formed.
+/// Changes the number of children of a node, or the word of one of its children, used or not.
+fn change_children(random: &Random, table: &mut Table) {
+    let nodes = table.words.len() / NODE_WORDS;
+    if nodes == 0 {
+        return;
+    }
+    let (node, place) = (random.position(nodes), 2 + random.position(1 + MOST_CHILDREN));
+    let number = node as u32;
+    table.words[NODE_WORDS * node + place] = match place {
+        2 => random.choose(&[0, 1, 2, 3, 7, 8, 9, 10, 258, 1 << 16 | 2, 1 << 31, u32::MAX]),
+        _ => random.choose(&[0, 1, number.wrapping_sub(1), number, number + 1, telling(random, table)]),
+    };
+}
+
+/// Changes a child to another node below, adds or drops one, or changes a variable to another one: the table stays well-formed.
 fn change_child(random: &Random, table: &mut Table) {
     let Ok(mut nodes) = table.well_formed() else { return };
     let index = random.position(nodes.len());
     let other = random.below(index.max(1) as u64) as u32;
     let variable = random.below(u64::from(table.variables)) as u32;
-    nodes[index] = match (nodes[index], random.once_in(2)) {
+    nodes[index] = match (nodes[index].clone(), random.once_in(2)) {
         (Node::Pick(v, _, b), true) => Node::Pick(v, other, b),
-        (Node::Both(_, b), true) => Node::Both(other, b),
-        (Node::Both(a, _), _) => Node::Both(a, other),
+        (Node::Both(children), _) => Node::Both(changed(random, children, other)),
         (node, _) => node.renamed(|_| variable, |child| child),
     };
-    table.words.splice(..4 * nodes.len(), nodes.iter().flat_map(|node| node.encode()));
+    table.words.splice(..NODE_WORDS * nodes.len(), nodes.iter().flat_map(|node| node.encode()));
+}
+
+/// The children with another one in the place of one of them, one more, or one less.
+fn changed(random: &Random, mut children: Vec<u32>, other: u32) -> Vec<u32> {
+    let place = random.position(children.len());
+    match random.below(3) {
+        0 if children.len() < MOST_CHILDREN => children.insert(place, other),
+        1 if children.len() > 2 => drop(children.remove(place)),
+        _ => children[place] = other,
+    }
+    children
 }
 
 /// Changes one node to another one that is well-formed in its place.
@@ -52,7 +76,7 @@ fn change_node(random: &Random, table: &mut Table) {
     let Ok(nodes) = table.well_formed() else { return };
     let index = random.position(nodes.len());
     let node = noise_node(random, table.variables, index as u32);
-    table.words[4 * index..4 * index + 4].copy_from_slice(&node.encode());
+    table.words[NODE_WORDS * index..][..NODE_WORDS].copy_from_slice(&node.encode());
 }
 
 /// Changes N, n, or the number of words.
@@ -61,7 +85,7 @@ fn change_size(random: &Random, table: &mut Table) {
         0 => table.variables = telling(random, table),
         1 => table.nodes = telling(random, table),
         2 => table.nodes = table.nodes.wrapping_sub(1),
-        3 => table.words.truncate((4 * table.nodes as usize).saturating_sub(1)),
+        3 => table.words.truncate((NODE_WORDS * table.nodes as usize).saturating_sub(1)),
         _ => table.words.truncate(random.position(table.words.len() + 1)),
     }
 }
@@ -70,14 +94,13 @@ fn change_size(random: &Random, table: &mut Table) {
 fn noise_node(random: &Random, variables: u32, index: u32) -> Node {
     let variable = random.below(u64::from(variables)) as u32;
     let child = || random.below(u64::from(index.max(1))) as u32;
-    let (a, b) = (child(), child());
     match random.below(if index == 0 { 4 } else { 8 }) {
         0 => Node::False,
         1 => Node::True,
         2 => Node::Yes(variable),
         3 => Node::No(variable),
-        4 | 5 => Node::Pick(variable, a, b),
-        _ => Node::Both(a, b),
+        4 | 5 => Node::Pick(variable, child(), child()),
+        _ => Node::Both((0..circuits::number_of_children(random)).map(|_| child()).collect()),
     }
 }
 
@@ -104,8 +127,9 @@ pub fn table(random: &Random) -> Table {
         _ => Table { variables, ..circuits::table(random, used) },
     };
     for _ in 0..random.choose(&[0, 1, 1, 1, 2, 4]) {
-        match random.below(8) {
-            0..=2 => change_word(random, &mut table),
+        match random.below(9) {
+            0 | 1 => change_word(random, &mut table),
+            2 | 8 => change_children(random, &mut table),
             3 | 4 => change_child(random, &mut table),
             5 | 6 => change_node(random, &mut table),
             _ => change_size(random, &mut table),

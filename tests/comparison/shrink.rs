@@ -1,6 +1,6 @@
 //! Smaller tables, texts and numbers, for small reproducers.
 
-use crate::oracle::table::Table;
+use crate::oracle::table::{Table, MOST_CHILDREN, NODE_WORDS};
 
 /// Smaller numbers: 0, the half, one less.
 pub fn numbers(number: u64) -> Vec<u64> {
@@ -45,31 +45,46 @@ pub fn texts(text: &[u8]) -> Vec<Vec<u8>> {
 /// The table without one node; what pointed to it points to another one, and the numbers above it fall by one.
 fn without_node(table: &Table, removed: u32, instead: u32) -> Table {
     let mut words = vec![];
-    for (index, node) in table.words.chunks(4).enumerate().filter(|(index, _)| *index != removed as usize) {
+    for (index, node) in table.words.chunks(NODE_WORDS).enumerate().filter(|(index, _)| *index != removed as usize) {
         let kept = index < table.nodes as usize;
         let renumber = |child: u32| match child {
             _ if child == removed => instead,
             _ if child > removed && kept => child - 1,
             _ => child,
         };
-        match node {
-            [kind @ 4..=5, variable, a, b] => words.extend([*kind, *variable, renumber(*a), renumber(*b)]),
-            _ => words.extend(node),
+        let start = words.len();
+        words.extend(node);
+        if node.len() == NODE_WORDS {
+            words[start + 3..][..children(node)].iter_mut().for_each(|child| *child = renumber(*child));
         }
     }
     Table { nodes: table.nodes - 1, words, ..*table }
 }
 
+/// How many of the words of a node are used children.
+fn children(node: &[u32]) -> usize {
+    (node[2] as usize).min(MOST_CHILDREN)
+}
+
+/// The node without one of its children; those after it move down.
+fn without_child(node: &[u32], place: usize) -> Vec<u32> {
+    let mut fewer = node.to_vec();
+    fewer.remove(3 + place);
+    fewer.push(0);
+    fewer[2] -= 1;
+    fewer
+}
+
 fn without_nodes(table: &Table) -> Vec<Table> {
     let mut smaller = vec![];
-    let whole = (table.nodes as usize).min(table.words.len() / 4) as u32;
+    let whole = (table.nodes as usize).min(table.words.len() / NODE_WORDS) as u32;
     for nodes in numbers(u64::from(whole)) {
         smaller.push(Table { nodes: nodes as u32, ..table.clone() });
     }
     for removed in (0..whole).rev() {
-        let start = 4 * removed as usize;
+        let start = NODE_WORDS * removed as usize;
         let below = removed.saturating_sub(1);
-        for instead in [table.words[start + 2], table.words[start + 3], below, 0] {
+        for instead in [table.words[start + 3], table.words[start + 4], below, 0] {
             smaller.push(without_node(table, removed, instead));
         }
     }
@@ -78,7 +93,7 @@ fn without_nodes(table: &Table) -> Vec<Table> {
 
 /// Smaller tables: fewer words, fewer nodes, fewer variables, simpler nodes, lower words.
 pub fn tables(table: &Table) -> Vec<Table> {
-    let needed = (4 * table.nodes as usize).min(table.words.len());
+    let needed = (NODE_WORDS * table.nodes as usize).min(table.words.len());
     let mut smaller = vec![];
     if table.words.len() > needed {
         smaller.push(Table { words: table.words[..needed].to_vec(), ..table.clone() });
@@ -95,8 +110,14 @@ pub fn tables(table: &Table) -> Vec<Table> {
         words[start..start + new.len()].copy_from_slice(new);
         smaller.push(Table { words, ..table.clone() });
     };
-    for start in (0..needed / 4 * 4).step_by(4).filter(|&start| table.words[start] > 1) {
-        change(start, &[1, 0, 0, 0]);
+    for start in (0..needed / NODE_WORDS).map(|node| NODE_WORDS * node) {
+        let node = &table.words[start..][..NODE_WORDS];
+        if node[0] > 1 {
+            let mut simple = [0; NODE_WORDS];
+            simple[0] = 1;
+            change(start, &simple);
+        }
+        (0..children(node)).for_each(|place| change(start, &without_child(node, place)));
     }
     for index in 0..table.words.len() {
         numbers(u64::from(table.words[index])).iter().for_each(|&lower| change(index, &[lower as u32]));

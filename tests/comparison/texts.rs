@@ -2,7 +2,8 @@
 
 use crate::circuits;
 use crate::damage;
-use crate::oracle::table::Node;
+use crate::oracle::table::{Node, MOST_CHILDREN};
+use crate::oracle::text::MOST_BYTES;
 use crate::oracle::writer;
 use crate::random::Random;
 
@@ -19,15 +20,28 @@ impl Nested<'_> {
             Some(line) => format!("(line {line})"),
             None => self.form(child),
         };
-        match self.nodes[node as usize] {
+        match &self.nodes[node as usize] {
             Node::False => "(false)".to_string(),
             Node::True => "(true)".to_string(),
             Node::Yes(variable) => format!("(yes {variable})"),
             Node::No(variable) => format!("(no {variable})"),
-            Node::Pick(variable, a, b) => format!("(pick {variable} {} {})", argument(a), argument(b)),
-            Node::Both(a, b) => format!("(both {} {})", argument(a), argument(b)),
+            Node::Pick(variable, a, b) => format!("(pick {variable} {} {})", argument(*a), argument(*b)),
+            Node::Both(children) => both(&children.iter().map(|&child| argument(child)).collect::<Vec<String>>()),
         }
     }
+}
+
+/// A conjunction of forms.
+pub fn both(forms: &[String]) -> String {
+    format!("(both {})", forms.join(" "))
+}
+
+/// A form at one place of a conjunction of that many; the others are short.
+pub fn both_around(random: &Random, form: &str, number: usize, place: usize) -> String {
+    let short = |_| random.choose(&["(true)", "(no 0)", "(line 0)"]).to_string();
+    let mut forms: Vec<String> = (0..number).map(short).collect();
+    forms[place] = form.to_string();
+    both(&forms)
 }
 
 /// How many nodes the form of each node has, if none is a line of its own.
@@ -56,6 +70,14 @@ pub fn nested(random: &Random, variables: u32, nodes: &[Node], own_line_once_in:
     text
 }
 
+/// A number of forms of a `both`, now and then one that is not allowed.
+fn number_of_forms(random: &Random) -> usize {
+    if random.once_in(50) {
+        return random.choose(&[1, 9, 10]);
+    }
+    circuits::number_of_children(random)
+}
+
 /// A form straight from the grammar, down to that many brackets; its numbers are mostly in range.
 fn form(random: &Random, variables: u32, lines: u64, depth: u32, own: bool) -> String {
     let variable = if random.once_in(60) { random.below(60) } else { random.below(u64::from(variables.max(1))) };
@@ -68,14 +90,16 @@ fn form(random: &Random, variables: u32, lines: u64, depth: u32, own: bool) -> S
         4 if own => "(true)".to_string(),
         4 => format!("(line {})", if random.once_in(40) { lines + random.below(3) } else { random.below(lines.max(1)) }),
         kind => {
-            // One side deep, the other one short, so that the text stays short.
-            let mut sides = [depth - 1, depth.min(3) - 1];
+            let number = if kind < 7 { 2 } else { number_of_forms(random) };
+            // One side deep, the others short, so that the text stays short.
+            let mut sides = vec![if number == 2 { depth.min(3) - 1 } else { 1 }; number];
+            sides[0] = depth - 1;
             random.shuffle(&mut sides);
-            let [a, b] = sides.map(|depth| form(random, variables, lines, depth, false));
+            let forms: Vec<String> = sides.into_iter().map(|depth| form(random, variables, lines, depth, false)).collect();
             if kind < 7 {
-                format!("(pick {variable} {a} {b})")
+                format!("(pick {variable} {})", forms.join(" "))
             } else {
-                format!("(both {a} {b})")
+                both(&forms)
             }
         }
     }
@@ -93,15 +117,15 @@ fn from_grammar(random: &Random) -> String {
     text
 }
 
-/// Brackets nested to just that depth: the left or the right sides of `both` and `pick`.
+/// Brackets nested to just that depth: the sides of `pick`, and any place of a `both` of two to eight.
 pub fn deep(random: &Random, depth: usize) -> String {
     let mut form = random.choose(&["(true)", "(no 0)", "(line 0)"]).to_string();
     for _ in 1..depth {
+        let number = circuits::number_of_children(random);
         form = match random.below(4) {
-            0 => format!("(both {form} (true))"),
-            1 => format!("(both (yes 1) {form})"),
-            2 => format!("(pick 2 {form} (line 0))"),
-            _ => format!("(pick 1 (false) {form})"),
+            0 => format!("(pick 2 {form} (line 0))"),
+            1 => format!("(pick 1 (false) {form})"),
+            _ => both_around(random, &form, number, random.position(number)),
         };
     }
     format!("(circuit 3)\n(true)\n{form}\n")
@@ -125,10 +149,10 @@ pub fn text(random: &Random) -> String {
 }
 
 /// Pieces that a careless writer may put into a text.
-const PIECES: [&str; 34] = [
+const PIECES: [&str; 36] = [
     " ", "  ", "\n", "\r\n", "(", ")", "()", "0", "00", "1", "7", "9", "40", "41", "39", "1023", "1024", "9999", "10000", "00000",
     "(true)", "(false)", "(line 0)", "(line 1)", "(yes 0)", "true", "line", "pick 0", "circuit 3", "(circuit 3)\n", "T", "\0", "-1",
-    "+1",
+    "+1", " (true)", " (line 0)",
 ];
 
 /// Damages a text by one edit.
@@ -162,18 +186,19 @@ fn edit_number(random: &Random, text: &mut Vec<u8>, digits: &[usize]) {
     }
 }
 
-/// A long text: very many lines, over 40,000 bytes or near that, at times damaged.
+/// A long text: very many lines, over 110,000 bytes or near that, at times damaged.
 pub fn long(random: &Random) -> Vec<u8> {
-    let line = random.choose(&["(true)\n", "(yes 0)\n", "(both (true) (true))\n", "(pick 39 (line 0) (line 0))\n"]);
+    let eight = both(&vec!["(line 0)".to_string(); MOST_CHILDREN]) + "\n";
+    let line = random.choose(&["(true)\n", "(yes 0)\n", "(both (true) (true))\n", "(pick 39 (line 0) (line 0))\n", &eight]);
     let mut text = b"(circuit 40)\n(true)\n".to_vec();
     match random.below(3) {
         0 => (1..random.between(1020, 1030)).for_each(|_| text.extend(line.bytes())),
         1 => (0..random.between(505, 515)).for_each(|_| text.extend(line.bytes())),
         _ => {
-            while text.len() < 40_010 {
+            while text.len() < MOST_BYTES + 10 {
                 text.extend(line.bytes());
             }
-            text.truncate(random.between(39_995, 40_005) as usize);
+            text.truncate(MOST_BYTES + 5 - random.position(11));
         }
     }
     if random.once_in(3) {

@@ -5,6 +5,7 @@ ghost use Rattle.table.specs.Words.{firstFault, Readable};
 ghost use Rattle.circuits.specs.Check.{nodeRules, check};
 ghost use Rattle.checks.specs.Arguments.{checkAssignment, checkTerm};
 
+mod children;
 mod faults;
 
 use table::Checked;
@@ -32,7 +33,7 @@ fn check_nodes(words: &[u32], n: usize) -> Checked
     Checked::Accepted
 }
 
-// The check of a table: 21 to 25 in order, each with its lowest node. Cost: a constant number of steps a node.
+// The check of a table: 21 to 25 in order, each with its lowest node. Cost: a constant number of steps a child.
 pub fn check(words: &[u32], variables: u32, nodes: u32) -> Checked
     ensures { λ r. ⌜ checked r ≡ check variables nodes (now (words .entry)) ⌝ }
 {

@@ -1,17 +1,19 @@
 -- The nodes of an accepted table as functions: decisions and conjunctions of their children's, with no variable in common.
-use Prim.Native.Nat.{ℕ, _<_, _≤_}
+use Prim.Native.Nat.{ℕ, zero, suc, _<_, _≤_}
 use mathlib.Core.Path.{_≡_, refl, sym, ap, subst, _∙_, fun-ext}
 use mathlib.Core.Bool.{Bool, true, false, not, cond}
 use mathlib.Core.Logic.{_⊎_, ⊎-elim, ⊎-map, _≢_}
-use mathlib.Core.List.{List, _∷_, List·Memᴰ, List·Memᴰ·head, List·Memᴰ·tail}
+use mathlib.Core.List.{List, [], _∷_, List·Memᴰ, List·Memᴰ·head, List·Memᴰ·tail}
 use native.Mathlib.Omega.{arith}
 use lib.Dec.{T}
+use lib.ListN.{drop}
 use lib.Pow.{pow-pos}
 use Rattle.masks.specs.Mask.{width, bit, put, disjoint}
 use Rattle.masks.proofs.Masks.{put-same, put-lt}
 use Rattle.masks.proofs.Operators.{disjoint-at}
 use Rattle.masks.proofs.Tests.{and-l, and-r, not-or, not-not, along, either, same?}
 use Rattle.table.specs.Node.{nodeAt, Node, decision, conjunction}
+use Rattle.table.proofs.Encoding.{Fits}
 use Rattle.terms.specs.Lists.{all}
 use Rattle.terms.specs.Prime.{Prime}
 use Rattle.terms.specs.Term.{empty, has, without, extend}
@@ -20,7 +22,7 @@ use Rattle.terms.proofs.Terms.{without-here, extend-here, extend-there, empty-h
 use Rattle.circuits.specs.Check.{allDisjoint, nodeMeets, undecomposable}
 use Rattle.circuits.specs.Function.{signed, nodeValue, function, union, support}
 use Rattle.circuits.proofs.Accepted.{variables-wide, Accepted}
-use Rattle.circuits.proofs.Tables.{Fits, all-free, fits, function-of, not-under-free}
+use Rattle.circuits.proofs.Tables.{all-free, fits, function-of, not-under-free}
 
 -- the two sides of a decision: the function of child a where the variable is no, of b where it is yes
 abbrev pub sides : List ℕ → ℕ → ℕ → Bool → ℕ → Bool
@@ -54,14 +56,14 @@ module _ {N n : ℕ} {w : List ℕ} (acc : Accepted N n w) where
 
   -- ---- no variable matters to two children of a conjunction
   pub conjunction-below : (i : ℕ) (cs : List ℕ) → i < n → nodeAt w i ≡ conjunction cs → (c : ℕ) → List·Memᴰ c cs → c < n
-  conjunction-below i cs l e c m = let k : c < i = node-fits i (conjunction cs) l e c m in omega arith
+  conjunction-below i cs l e c m = let k : c < i = node-fits i (conjunction cs) l e .2 c m in omega arith
 
   pub conjunction-disjoint : (i : ℕ) (cs : List ℕ) → i < n → nodeAt w i ≡ conjunction cs → T (allDisjoint (support w) cs)
   unfolding undecomposable
   conjunction-disjoint i cs l e =
       not-not (allDisjoint (support w) cs) (subst (λ (y : Node). T (not (nodeMeets (support w) y))) e (acc .decomposed i l))
 
-  all-not-under : (cs : List ℕ) (x : ℕ) → ((c : ℕ) → List·Memᴰ c cs → c < n) → T (not (bit (union (support w) cs) x))
+  pub all-not-under : (cs : List ℕ) (x : ℕ) → ((c : ℕ) → List·Memᴰ c cs → c < n) → T (not (bit (union (support w) cs) x))
       → Free N (allOf w cs) x
   all-not-under cs x l h s b k =
       all-free x cs (support w) (λ c. function w c (put s x b)) (λ c. function w c s) h
@@ -78,6 +80,18 @@ module _ {N n : ℕ} {w : List ℕ} (acc : Accepted N n w) where
 
   pub rest-disjoint : (c : ℕ) (cs : List ℕ) → T (allDisjoint (support w) (c ∷ cs)) → T (allDisjoint (support w) cs)
   rest-disjoint c cs h = and-r (disjoint (support w c) (union (support w) cs)) (allDisjoint (support w) cs) h
+
+-- ---- the children from a place on
+pub drop-mem : (k : ℕ) (cs : List ℕ) (c : ℕ) → List·Memᴰ c (drop k cs) → List·Memᴰ c cs
+drop-mem zero cs c m = m
+drop-mem (suc k) [] c m = m
+drop-mem (suc k) (d ∷ cs) c m = List·Memᴰ·tail (drop-mem k cs c m)
+
+pub drop-disjoint : {N n : ℕ} {w : List ℕ} → Accepted N n w → (k : ℕ) (cs : List ℕ) → T (allDisjoint (support w) cs)
+    → T (allDisjoint (support w) (drop k cs))
+drop-disjoint acc zero cs h = h
+drop-disjoint acc (suc k) [] h = tt
+drop-disjoint acc (suc k) (c ∷ cs) h = drop-disjoint acc k cs (rest-disjoint acc c cs h)
 
 -- ---- the leaves' prime implicants
 module _ (N : ℕ) where

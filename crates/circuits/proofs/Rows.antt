@@ -1,14 +1,14 @@
--- What Propositions 3 and 5 build bottom up is each node's prime implicants in order. No contract rests on these lists.
-use Prim.Native.Nat.{ℕ, _<_, _≤_}
-use mathlib.Core.Path.{_≡_, refl, sym, ap, ap₂, subst, _∙_}
-use mathlib.Core.Bool.{Bool, true, false, not, cond}
+-- The lists that Propositions 3 and 5 build are prime implicants in order.
+use Prim.Native.Nat.{ℕ, _<_}
+use mathlib.Core.Path.{_≡_, refl, sym, ap, subst, _∙_, fun-ext}
+use mathlib.Core.Bool.{Bool, true, false, not, cond, and-true}
 use mathlib.Core.Logic.{⊎-elim}
-use mathlib.Core.List.{List, [], _∷_, List·Memᴰ, List·Memᴰ·head, List·Memᴰ·tail, List·Memᴰ·not-nil, List·Memᴰ·eq-of-singleton}
+use mathlib.Core.List.{List, [], _∷_, List·Memᴰ, List·Memᴰ·head, List·Memᴰ·not-nil, List·Memᴰ·eq-of-singleton}
 use lib.Dec.{T, T-not}
-use Rattle.masks.specs.Mask.{width, bit, put}
+use Rattle.masks.specs.Mask.{bit, put}
 use Rattle.masks.proofs.Masks.{put-same, put-lt}
 use Rattle.masks.proofs.Tests.{decide, along}
-use Rattle.table.specs.Node.{nodeAt, Node, constant, literal, decision, conjunction, unknown}
+use Rattle.table.specs.Node.{nodeAt, decision}
 use Rattle.terms.specs.Joins.{joins, decisionTerms}
 use Rattle.terms.specs.Lists.{sort}
 use Rattle.terms.specs.Order.{before}
@@ -22,29 +22,9 @@ use Rattle.terms.proofs.Listed.{primes-lists, sort-primes}
 use Rattle.terms.proofs.Terms.{Inside, extend-there, extend-only, empty-has, by-variable, without-inside, agrees-inside, put-agrees}
 use Rattle.terms.proofs.Terms.{own-agrees}
 use Rattle.circuits.specs.Check.{allDisjoint}
-use Rattle.circuits.specs.Terms.{joinAll, nodeTerms}
-use Rattle.circuits.specs.Function.{ofNode, signed, nodeValue, function, support}
+use Rattle.circuits.specs.Function.{signed, function, support}
 use Rattle.circuits.proofs.Accepted.{variables-wide, Accepted}
-use Rattle.circuits.proofs.BottomUp.{Local, from-children, branch-mem}
-use Rattle.circuits.proofs.Nodes.{sides, allOf, function-is, decision-free, conjunction-below, conjunction-disjoint, all-apart}
-use Rattle.circuits.proofs.Nodes.{rest-disjoint, true-prime, signed-not, literal-prime}
-use Rattle.circuits.proofs.Tables.{Fits, fits, children-below, node-induction}
-
-unfoldable pub termsAt : List ℕ → ℕ → List Term
-termsAt w i = ofNode [] nodeTerms w i
-
-joinAll-local : (cs : List ℕ) (v v′ : ℕ → List Term) → ((c : ℕ) → List·Memᴰ c cs → v c ≡ v′ c) → joinAll v cs ≡ joinAll v′ cs
-joinAll-local [] v v′ h = refl
-joinAll-local (c ∷ cs) v v′ h =
-    ap₂ joins (h c (List·Memᴰ·head refl)) (joinAll-local cs v v′ (λ d m. h d (List·Memᴰ·tail m)))
-
-pub terms-local : Local nodeTerms
-terms-local (constant b) v v′ h = refl
-terms-local (literal b x) v v′ h = refl
-terms-local (decision x a b) v v′ h =
-    ap₂ (λ (p q : List Term). sort before (decisionTerms x p q)) (h a (branch-mem a b false)) (h b (branch-mem a b true))
-terms-local (conjunction cs) v v′ h = ap (sort before) (joinAll-local cs v v′ h)
-terms-local unknown v v′ h = refl
+use Rattle.circuits.proofs.Nodes.{sides, allOf, decision-free, all-apart, true-prime, signed-not, literal-prime}
 
 -- ---- the leaves
 module _ (N : ℕ) where
@@ -104,45 +84,34 @@ module _ (N : ℕ) where
   unfolding sort
   sort-one t = refl
 
+  -- the terms of the leaves are their prime implicants
+  pub constant-rows : (b : Bool) → cond b (empty ∷ []) [] ≡ primes N (λ s. b)
+  constant-rows b = sym (sort-constant b) ∙ sort-primes N (λ s. b) (cond b (empty ∷ []) []) (constant-lists b)
+
+  pub literal-rows : (b : Bool) (x : ℕ) → x < N → extend empty x b ∷ [] ≡ primes N (λ s. signed b (bit s x))
+  literal-rows b x l =
+      sym (sort-one (extend empty x b)) ∙ sort-primes N (λ s. signed b (bit s x)) (extend empty x b ∷ []) (literal-lists b x l)
+
 module _ {N n : ℕ} {w : List ℕ} (acc : Accepted N n w) where
   abbrev rows : ℕ → List Term
   rows c = primes N (function w c)
 
-  wide : N ≤ width
-  wide = variables-wide acc
+  -- those of a decision, from its sides' (Proposition 5)
+  pub decision-rows : (i x a b : ℕ) → i < n → nodeAt w i ≡ decision x a b → x < N
+      → sort before (decisionTerms x (rows a) (rows b)) ≡ primes N (choice (sides w a b) x)
+  decision-rows i x a b l e below =
+      sort-primes N (choice (sides w a b) x) (decisionTerms x (rows a) (rows b))
+      (decision-lists N (variables-wide acc) (sides w a b) x below (decision-free acc i x a b l e) (rows a) (rows b)
+      (primes-lists N (function w a)) (primes-lists N (function w b)))
 
-  all-lists : (cs : List ℕ) → T (allDisjoint (support w) cs) → ((c : ℕ) → List·Memᴰ c cs → c < n)
-      → Lists N (allOf w cs) (joinAll rows cs)
-  all-lists [] d l = constant-lists N true
-  all-lists (c ∷ cs) d l =
-      joins-lists N wide (function w c) (allOf w cs) (rows c) (joinAll rows cs) (primes-lists N (function w c))
-      (all-lists cs (rest-disjoint acc c cs d) (λ e m. l e (List·Memᴰ·tail m))) (all-apart acc c cs d l)
+  -- those of a conjunction with no variable in common, from one child's and those of the rest (Proposition 3)
+  pub joined-rows : (c : ℕ) (cs : List ℕ) → T (allDisjoint (support w) (c ∷ cs)) → ((d : ℕ) → List·Memᴰ d (c ∷ cs) → d < n)
+      → sort before (joins (rows c) (primes N (allOf w cs))) ≡ primes N (allOf w (c ∷ cs))
+  joined-rows c cs d below =
+      sort-primes N (allOf w (c ∷ cs)) (joins (rows c) (primes N (allOf w cs)))
+      (joins-lists N (variables-wide acc) (function w c) (allOf w cs) (rows c) (primes N (allOf w cs))
+      (primes-lists N (function w c)) (primes-lists N (allOf w cs)) (all-apart acc c cs d below))
 
-  -- one node, from its children's prime implicants
-  pub node-terms : (i : ℕ) → i < n → (y : Node) → nodeAt w i ≡ y → Fits N i y → nodeTerms y rows ≡ rows i
-  node-terms i l y e f = build y e f ∙ ap (primes N) (sym (function-is acc i y l e))
-    where
-      build : (y : Node) → nodeAt w i ≡ y → Fits N i y → nodeTerms y rows ≡ primes N (λ s. nodeValue s y (λ c. function w c s))
-      build (constant b) e f =
-          sym (sort-constant N b) ∙ sort-primes N (λ s. b) (cond b (empty ∷ []) []) (constant-lists N b)
-      build (literal b x) e f =
-          sym (sort-one N (extend empty x b))
-          ∙ sort-primes N (λ s. signed b (bit s x)) (extend empty x b ∷ []) (literal-lists N b x f)
-      build (decision x a b) e f =
-          sort-primes N (choice (sides w a b) x) (decisionTerms x (rows a) (rows b))
-          (decision-lists N wide (sides w a b) x (f .0) (decision-free acc i x a b l e) (rows a) (rows b)
-          (primes-lists N (function w a)) (primes-lists N (function w b)))
-      build (conjunction cs) e f =
-          sort-primes N (allOf w cs) (joinAll rows cs)
-          (all-lists cs (conjunction-disjoint acc i cs l e) (conjunction-below acc i cs l e))
-      build unknown e f = absurd f
-
-  -- every node's built terms are its prime implicants in order
-  pub terms-primes : (i : ℕ) → i < n → termsAt w i ≡ primes N (function w i)
-  unfolding termsAt
-  terms-primes =
-      node-induction N n w (acc .well) (λ i. ofNode [] nodeTerms w i ≡ rows i)
-      (λ i l below.
-      from-children [] nodeTerms w terms-local i (children-below N n w (acc .well) i l)
-      ∙ terms-local (nodeAt w i) (ofNode [] nodeTerms w) rows below
-      ∙ node-terms i l (nodeAt w i) refl (fits N n w (acc .well) i l))
+  -- one child alone
+  pub alone-rows : (c : ℕ) → rows c ≡ primes N (allOf w (c ∷ []))
+  alone-rows c = ap (primes N) (fun-ext (λ s. sym (and-true (function w c s))))

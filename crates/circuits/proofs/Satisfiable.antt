@@ -7,6 +7,7 @@ use mathlib.Core.List.{List, [], _∷_, List·Memᴰ, List·Memᴰ·head, List·
 use lib.Dec.{T, T-not, not-T}
 use Rattle.masks.proofs.Tests.{not-and}
 use Rattle.table.specs.Node.{nodeAt, children, Node, constant, literal, decision, conjunction, unknown}
+use Rattle.table.proofs.Encoding.{Fits}
 use Rattle.terms.specs.Lists.{any}
 use Rattle.terms.specs.Prime.{Prime}
 use Rattle.terms.specs.Term.{empty, extend, join}
@@ -21,7 +22,7 @@ use Rattle.circuits.proofs.Accepted.{Accepted}
 use Rattle.circuits.proofs.BottomUp.{branch-mem}
 use Rattle.circuits.proofs.Nodes.{sides, allOf, node-fits, function-is, decision-free, conjunction-below, conjunction-disjoint}
 use Rattle.circuits.proofs.Nodes.{all-apart, rest-disjoint, true-prime, literal-prime}
-use Rattle.circuits.proofs.Tables.{Fits, fits, node-induction}
+use Rattle.circuits.proofs.Tables.{fits, node-induction}
 
 module _ {N n : ℕ} {w : List ℕ} (acc : Accepted N n w) where
   abbrev pub HasPrime : (ℕ → Bool) → Type 0

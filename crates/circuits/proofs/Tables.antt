@@ -2,20 +2,19 @@
 use Prim.Native.Nat.{ℕ, zero, suc, _<_}
 use mathlib.Core.Path.{_≡_, refl, sym, ap, ap₂, subst, _∙_}
 use mathlib.Core.Bool.{Bool, true, false, not, cond, _&&_}
-use mathlib.Core.Logic.{⊎-elim, _≢_}
-use mathlib.Core.List.{List, [], _∷_, List·Memᴰ, List·Memᴰ·head, List·Memᴰ·tail, List·Memᴰ·not-nil, List·Memᴰ·cases-cons}
-use mathlib.Core.List.{List·Memᴰ·eq-of-singleton}
+use mathlib.Core.Logic.{_≢_}
+use mathlib.Core.List.{List, [], _∷_, List·Memᴰ, List·Memᴰ·head, List·Memᴰ·tail}
 use native.Mathlib.Nat.{not-suc-le-zero, le-refl}
 use native.Mathlib.Omega.{arith}
-use lib.Dec.{T, T-not, ltb→lt}
+use lib.Dec.{T, T-not}
 use lib.Bits.{bitOr}
 use Rattle.masks.specs.Mask.{bit, put}
 use Rattle.masks.proofs.Masks.{put-same, put-other}
 use Rattle.masks.proofs.Operators.{bit-or}
-use Rattle.masks.proofs.Tests.{and-l, and-r, not-or, not-not, along, either}
-use Rattle.table.specs.Node.{kind, node, word, nodeAt, children, Kind, constantKind, literalKind, decisionKind, conjunctionKind}
-use Rattle.table.specs.Node.{unknownKind, Node, constant, literal, decision, conjunction, unknown}
-use Rattle.table.specs.Words.{wellFormed, malformed}
+use Rattle.masks.proofs.Tests.{not-or, along, either}
+use Rattle.table.specs.Node.{nodeAt, children, Node, constant, literal, decision, conjunction, unknown}
+use Rattle.table.specs.Words.{malformed}
+use Rattle.table.proofs.Encoding.{Fits, node-fits, fits-below}
 use Rattle.terms.specs.Lists.{all}
 use Rattle.terms.proofs.Implicants.{Free}
 use Rattle.circuits.specs.Function.{signed, nodeValue, function, union, nodeSupport, support}
@@ -24,36 +23,6 @@ use Rattle.circuits.proofs.BottomUp.{from-children, branch-mem, value-l
 -- every node below n is well-formed
 abbrev pub WellFormed : ℕ → ℕ → List ℕ → Type 0
 WellFormed N n w = (i : ℕ) → i < n → T (not (malformed N w i))
-
--- what a well-formed node i has
-abbrev pub Fits : ℕ → ℕ → Node → Type 0
-Fits N i (constant b) = Unit {0}
-Fits N i (literal b x) = x < N
-Fits N i (decision x a b) = (x < N) × (a < i) × (b < i)
-Fits N i (conjunction cs) = (c : ℕ) → List·Memᴰ c cs → c < i
-Fits N i unknown = ⊥
-
-two-below : (i a b : ℕ) → a < i → b < i → (c : ℕ) → List·Memᴰ c (a ∷ b ∷ []) → c < i
-two-below i a b p q c m =
-    ⊎-elim (λ (e : c ≡ a). omega arith)
-    (λ (k : List·Memᴰ c (b ∷ [])). let e : c ≡ b = List·Memᴰ·eq-of-singleton k in omega arith)
-    (List·Memᴰ·cases-cons m)
-
-kind-fits : (N i : ℕ) (k : Kind) (x a b : ℕ) → T (wellFormed N i k x a b) → Fits N i (node k x a b)
-kind-fits N i (constantKind v) x a b h = tt
-kind-fits N i (literalKind v) x a b h = ltb→lt x N (search (and-l, and-r))
-kind-fits N i decisionKind x a b h =
-    (ltb→lt x N (search (and-l, and-r)), ltb→lt a i (search (and-l, and-r)), ltb→lt b i (search (and-l, and-r)))
-kind-fits N i conjunctionKind x a b h =
-    two-below i a b (ltb→lt a i (search (and-l, and-r))) (ltb→lt b i (search (and-l, and-r)))
-kind-fits N i unknownKind x a b h = h
-
-fits-below : (N i : ℕ) (y : Node) → Fits N i y → (c : ℕ) → List·Memᴰ c (children y) → c < i
-fits-below N i (constant b) f c m = absurd (List·Memᴰ·not-nil m)
-fits-below N i (literal b x) f c m = absurd (List·Memᴰ·not-nil m)
-fits-below N i (decision x a b) f c m = two-below i a b (f .1) (f .2) c m
-fits-below N i (conjunction cs) f c m = f c m
-fits-below N i unknown f c m = absurd f
 
 -- ---- a variable that is not under a node does not matter to it
 not-or-bit : (a b x : ℕ) → T (not (bit (bitOr a b) x)) → T (not (bit a x)) × T (not (bit b x))
@@ -88,10 +57,7 @@ node-free x s b u v v′ unknown h e = refl
 
 module _ (N n : ℕ) (w : List ℕ) (well : WellFormed N n w) where
   pub fits : (i : ℕ) → i < n → Fits N i (nodeAt w i)
-  unfolding malformed nodeAt
-  fits i l =
-      kind-fits N i (kind (word w i 0)) (word w i 1) (word w i 2) (word w i 3)
-      (not-not (wellFormed N i (kind (word w i 0)) (word w i 1) (word w i 2) (word w i 3)) (well i l))
+  fits i l = node-fits N i w (well i l)
 
   pub children-below : (i : ℕ) → i < n → (c : ℕ) → List·Memᴰ c (children (nodeAt w i)) → c < i
   children-below i l = fits-below N i (nodeAt w i) (fits i l)

@@ -1,19 +1,22 @@
 -- Words past those of the nodes are not read: tables that agree in the words of the nodes below n agree in all that is said of these.
-use Prim.Native.Nat.{ℕ, zero, suc, _+_, _*_, _<_, _≤_}
+use Prim.Native.Nat.{ℕ, zero, suc, _<_, _≤_}
 use mathlib.Core.Path.{_≡_, refl, sym, ap, ap₂, _∙_}
 use mathlib.Core.Bool.{Bool, true, false, _&&_, _||_, not, cond}
 use mathlib.Core.List.{List, [], _∷_, _++_, List·Memᴰ, List·Memᴰ·head, List·Memᴰ·tail}
 use native.Mathlib.Omega.{arith}
 use lib.Dec.{T, ltb, leb, nltb→le, le→leb}
-use lib.ListN.{length, getD, take, length-append, List·getD-append}
-use lib.Seq.{length-take-le, getD-take}
+use lib.ListN.{length, getD, take, length-append}
+use lib.Seq.{length-take-le}
 use Rattle.masks.specs.Mask.{bit, disjoint}
 use Rattle.masks.specs.Numbers.{least}
 use Rattle.masks.proofs.Numbers.{some-ext, least-ext, least-none}
 use Rattle.masks.proofs.Tests.{is-true, along}
-use Rattle.table.specs.Node.{kind, node, nodeWords, word, nodeAt, children, Node, constant, literal, decision, conjunction, unknown}
+use Rattle.table.specs.Layout.{wordsFor, wordsAt}
+use Rattle.table.specs.Node.{decodeWords, nodeAt, children, Node, constant, literal, decision, conjunction, unknown}
 use Rattle.table.specs.Outcome.{Outcome, refused}
 use Rattle.table.specs.Words.{wellFormed, variablesFit, inRange, malformed, firstFault}
+use Rattle.table.specs.declared.layout.NodeWords.{NodeWords}
+use Rattle.table.proofs.NodePlaces.{words-front}
 use Rattle.terms.specs.Lists.{any}
 use Rattle.circuits.specs.Check.{hasChild, parentless, allDisjoint, nodeMeets, undecomposable, isFalse, nodeUnreduced, unreduced}
 use Rattle.circuits.specs.Check.{rules, check}
@@ -32,7 +35,7 @@ disjoint-local (c ∷ cs) v v′ h =
     let rest : (b : ℕ) → List·Memᴰ b cs → v b ≡ v′ b = λ b m. h b (List·Memᴰ·tail m) in
     ap₂ _&&_ (ap₂ disjoint (h c (List·Memᴰ·head refl)) (union-local cs v v′ rest)) (disjoint-local cs v v′ rest)
 
-meets-local : (y : Node) (v v′ : ℕ → ℕ) → ((c : ℕ) → List·Memᴰ c (children y) → v c ≡ v′ c) → nodeMeets v y ≡ nodeMeets v′ y
+pub meets-local : (y : Node) (v v′ : ℕ → ℕ) → ((c : ℕ) → List·Memᴰ c (children y) → v c ≡ v′ c) → nodeMeets v y ≡ nodeMeets v′ y
 meets-local (constant b) v v′ h = refl
 meets-local (literal b x) v v′ h = refl
 meets-local (decision x a b) v v′ h =
@@ -61,17 +64,12 @@ fault-same n k p p′ o o′ e rest =
 
 -- w′ has the words of w at the nodes below n
 abbrev pub SameNodes : ℕ → List ℕ → List ℕ → Type 0
-SameNodes n w w′ = (i j : ℕ) → i < n → j < nodeWords → word w′ i j ≡ word w i j
+SameNodes n w w′ = (i : ℕ) → i < n → wordsAt w′ i ≡ wordsAt w i
 
 module _ (n : ℕ) (w w′ : List ℕ) (same : SameNodes n w w′) where
   pub node-same : (i : ℕ) → i < n → nodeAt w′ i ≡ nodeAt w i
   unfolding nodeAt
-  node-same i l =
-      let k : word w′ i 0 ≡ word w i 0 = same i 0 l (omega arith) in
-      let x : word w′ i 1 ≡ word w i 1 = same i 1 l (omega arith) in
-      let a : word w′ i 2 ≡ word w i 2 = same i 2 l (omega arith) in
-      let b : word w′ i 3 ≡ word w i 3 = same i 3 l (omega arith) in
-      λ d. node (kind (k d)) (x d) (a d) (b d)
+  node-same i l = ap decodeWords (same i l)
 
   -- ---- what is computed bottom up
   module _ {A : Type 0} (d : A) (f : Node → (ℕ → A) → A) where
@@ -96,12 +94,7 @@ module _ (n : ℕ) (w w′ : List ℕ) (same : SameNodes n w w′) where
   -- ---- the rules
   pub malformed-same : (N i : ℕ) → i < n → malformed N w′ i ≡ malformed N w i
   unfolding malformed
-  malformed-same N i l =
-      let k : word w′ i 0 ≡ word w i 0 = same i 0 l (omega arith) in
-      let x : word w′ i 1 ≡ word w i 1 = same i 1 l (omega arith) in
-      let a : word w′ i 2 ≡ word w i 2 = same i 2 l (omega arith) in
-      let b : word w′ i 3 ≡ word w i 3 = same i 3 l (omega arith) in
-      λ d. not (wellFormed N i (kind (k d)) (x d) (a d) (b d))
+  malformed-same N i l = ap (λ (y : NodeWords). not (wellFormed N i y)) (same i l)
 
   parentless-same : (i : ℕ) → parentless w′ n i ≡ parentless w n i
   unfolding parentless
@@ -139,12 +132,12 @@ module _ (n : ℕ) (w w′ : List ℕ) (same : SameNodes n w w′) where
       fault-same n 24 (undecomposable w) (undecomposable w′) (last w) (last w′) (undecomposable-same N well) (λ h.
       fault-same n 25 (unreduced w) (unreduced w′) accepts accepts (unreduced-same N well) (λ h. refl))))
 
-  module _ (N : ℕ) (long : nodeWords * n ≤ length w) (long′ : nodeWords * n ≤ length w′) where
+  module _ (N : ℕ) (long : wordsFor n ≤ length w) (long′ : wordsFor n ≤ length w′) where
     pub range-same : inRange N n w′ ≡ inRange N n w
     range-same =
         ap (λ (b : Bool). variablesFit N && leb 1 n && leb n 1024 && b)
-        (is-true (leb (nodeWords * n) (length w′)) (le→leb (nodeWords * n) (length w′) long′)
-        ∙ sym (is-true (leb (nodeWords * n) (length w)) (le→leb (nodeWords * n) (length w) long)))
+        (is-true (leb (wordsFor n) (length w′)) (le→leb (wordsFor n) (length w′) long′)
+        ∙ sym (is-true (leb (wordsFor n) (length w)) (le→leb (wordsFor n) (length w) long)))
 
     pub check-same : check N n w′ ≡ check N n w
     unfolding check
@@ -152,17 +145,11 @@ module _ (n : ℕ) (w w′ : List ℕ) (same : SameNodes n w w′) where
 
 -- ---- the words of n nodes, and any others after them
 abbrev pub withRest : ℕ → List ℕ → List ℕ → List ℕ
-withRest n w v = take (nodeWords * n) w ++ v
+withRest n w v = take (wordsFor n) w ++ v
 
-module _ (n : ℕ) (w v : List ℕ) (long : nodeWords * n ≤ length w) where
-  front : length (take (nodeWords * n) w) ≡ nodeWords * n
-  front = length-take-le (nodeWords * n) w long
-
-  pub rest-long : nodeWords * n ≤ length (withRest n w v)
-  rest-long = omega (arith, front, length-append (take (nodeWords * n) w) v)
+module _ (n : ℕ) (w v : List ℕ) (long : wordsFor n ≤ length w) where
+  pub rest-long : wordsFor n ≤ length (withRest n w v)
+  rest-long = omega (arith, length-take-le (wordsFor n) w long, length-append (take (wordsFor n) w) v)
 
   pub rest-same : SameNodes n w (withRest n w v)
-  rest-same i j l k =
-      let m : nodeWords * i + j < nodeWords * n = omega arith in
-      List·getD-append (take (nodeWords * n) w) v 0 (nodeWords * i + j) (omega (arith, front))
-      ∙ getD-take (nodeWords * n) w (nodeWords * i + j) 0 m
+  rest-same i l = words-front n w v long i l

@@ -23,7 +23,7 @@ isChild w n c = some n (λ j. hasChild c (nodeAt w j))
 unfoldable pub parentless : List ℕ → ℕ → ℕ → Bool
 parentless w n i = ltb (suc i) n && not (isChild w n i)
 
--- no variable is in two of the masks
+-- no variable is in two of the masks: each is held against all those after it
 abbrev pub allDisjoint : (ℕ → ℕ) → List ℕ → Bool
 allDisjoint v [] = true
 allDisjoint v (c ∷ cs) = disjoint (v c) (union v cs) && allDisjoint v cs

@@ -1,3 +1,2 @@
 pub mod Function
 pub mod Check
-pub mod Terms

@@ -1,16 +1,24 @@
 // Prints the prime implicants ("clearances") of the circuit whose text stands on standard input. A read or a write that fails is told
 // on standard error. Every function that prints answers whether all of it went.
+ghost use mathlib.Core.Path.{_≡_};
+ghost use lib.ListN.{length};
+ghost use Rattle.text.specs.Answers.{readingOf};
+ghost use Rattle.clearances.specs.Reading.{programAnswer};
 use console::input::Input;
 use console::tell;
 use console::write;
 use listing::Listing;
 use output::refusals::fault_line;
 use output::refusals::table_refusal_line;
-use table::NODE_WORDS;
 use table::Refusal;
+use table::layout::NODE_WORDS;
 use terms::Term;
+use text::answer::Fault;
 use text::answer::Reading;
-use text::limits::MAX_BYTES;
+use text_reader::reader::read;
+
+// How many bytes the program takes: its own limit stays as it is where that of circuit texts grows.
+const BYTES: usize = 40000;
 
 // How many nodes the program takes, how many prime implicants of each, and how many entries the row buffers have for them.
 const NODES: usize = 64;
@@ -89,10 +97,20 @@ fn print_circuit(words: &[u32], variables: u32, nodes: u32) -> bool {
     }
 }
 
+// Reads a text that is not too long for the program.
+fn read_text(text: &[u8], words: &mut [u32]) -> Reading
+    ensures { λ r. ⌜ readingOf r ≡ programAnswer (now (text .entry)) (length (now (words .entry))) ⌝ }
+{
+    if BYTES < text.len() {
+        return Reading::Refused(Fault::Length, BYTES);
+    }
+    read(text, words)
+}
+
 // Reads the text and prints the answer.
 fn print_answer(text: &[u8]) -> bool {
     let mut words = [0u32; NODE_WORDS * NODES];
-    match text_reader::reader::read(text, &mut words) {
+    match read_text(text, &mut words) {
         Reading::Refused(fault, place) => {
             let mut line = [0u8; 512];
             let n = fault_line(&mut line, fault, place);
@@ -102,8 +120,9 @@ fn print_answer(text: &[u8]) -> bool {
     }
 }
 
+// One byte more than the program takes is enough to tell a text that is too long.
 fn main() {
-    let mut text = [0u8; MAX_BYTES + 1];
+    let mut text = [0u8; BYTES + 1];
     match console::input::read_input(&mut text) {
         Input::Failed => tell(b"clearances: standard input could not be read\n"),
         Input::Bytes(length) => {

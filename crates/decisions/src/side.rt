@@ -1,6 +1,5 @@
 // The terms of one side: each is listed as it is, and kept, where a term of the other side is inside it, and else with the literal of the
 // decision's variable.
-ghost use mathlib.Core.Path.{_≡_};
 ghost use Prim.Native.Nat.{_<_};
 ghost use lib.ListN.{length};
 ghost use Rattle.terms.specs.Term.{termsOf};

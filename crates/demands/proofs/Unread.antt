@@ -10,7 +10,8 @@ use Rattle.masks.specs.Mask.{within}
 use Rattle.masks.specs.Numbers.{count, below}
 use Rattle.masks.proofs.Numbers.{below-out}
 use Rattle.masks.proofs.Tests.{and-l, and-r}
-use Rattle.table.specs.Node.{nodeAt, nodeWords}
+use Rattle.table.specs.Layout.{wordsFor}
+use Rattle.table.specs.Node.{nodeAt}
 use Rattle.table.specs.Outcome.{accepted, after, Outcome, answered, refused}
 use Rattle.table.specs.Words.{malformed, checkWords}
 use Rattle.table.proofs.Outcomes.{after-after}
@@ -38,7 +39,7 @@ unfolding flatMap
 flatMap-local f g [] h = refl
 flatMap-local f g (x ∷ l) h = ap₂ _++_ (h x (List·Memᴰ·head refl)) (flatMap-local f g l (λ a m. h a (List·Memᴰ·tail m)))
 
-module _ (N n : ℕ) (w v : List ℕ) (long : nodeWords * n ≤ length w) where
+module _ (N n : ℕ) (w v : List ℕ) (long : wordsFor n ≤ length w) where
   -- the table with other words after those of its nodes
   abbrev w′ : List ℕ
   w′ = withRest n w v
@@ -46,7 +47,7 @@ module _ (N n : ℕ) (w v : List ℕ) (long : nodeWords * n ≤ length w) where
   same : SameNodes n w w′
   same = rest-same n w v long
 
-  long′ : nodeWords * n ≤ length w′
+  long′ : wordsFor n ≤ length w′
   long′ = rest-long n w v long
 
   check-unread : check N n w′ ≡ check N n w

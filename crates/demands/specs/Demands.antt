@@ -8,7 +8,8 @@ use lib.ListN.{getD, length, take, drop, replicate}
 use mathlib.Core.Path.{_≡_}
 use mathlib.Core.Logic.{_⊎_, _≢_}
 use Rattle.masks.specs.Numbers.{count}
-use Rattle.table.specs.Node.{nodeAt, nodeWords, maxNodes}
+use Rattle.table.specs.Layout.{wordsFor}
+use Rattle.table.specs.Node.{nodeAt, maxNodes}
 use Rattle.table.specs.Outcome.{accepted, Outcome, answered, refused}
 use Rattle.table.specs.Words.{checkWords}
 use Rattle.text.specs.AssignmentLine.{maskOf, readAssignment}
@@ -139,7 +140,7 @@ pub record AnyInput : Type 0 where
   -- a refusal comes with the mask 0
   pub line-refused : (s : List ℕ) (N k p : ℕ) → readAssignment s N ≡ refused k p → maskOf (readAssignment s N) ≡ 0
   -- words past those of the nodes are not read: any v may stand there
-  pub unread : (N n : ℕ) (w v : List ℕ) → nodeWords * n ≤ length w → SameAnswers N n w (take (nodeWords * n) w ++ v)
+  pub unread : (N n : ℕ) (w v : List ℕ) → wordsFor n ≤ length w → SameAnswers N n w (take (wordsFor n) w ++ v)
 
 -- ---- demand 2: verdict, count, tests and reduction agree with the Boolean function of the circuit, which is its last node's; the
 -- reading answers what the grammar says, and a table that is written is read in again
@@ -182,9 +183,9 @@ pub record OneMeaning : Type 0 where
   pub writes : (N n : ℕ) (w sink : List ℕ) → checkWords N n w ≡ accepted → length (tableText N n w) ≤ length sink
       → writeTable N n w sink .answer ≡ answered (length (tableText N n w))
   -- where writing answers the length k, the first k bytes of the sink, read with words enough, give N, n and the table, the rest 0
-  pub written-read : (N n : ℕ) (w sink : List ℕ) (k m : ℕ) → writeTable N n w sink .answer ≡ answered k → nodeWords * n ≤ m
+  pub written-read : (N n : ℕ) (w sink : List ℕ) (k m : ℕ) → writeTable N n w sink .answer ≡ answered k → wordsFor n ≤ m
       → readText (take k (writeTable N n w sink .sink)) m
-      ≡ answers (answered (N, n)) (take (nodeWords * n) w ++ replicate (m - nodeWords * n) 0)
+      ≡ answers (answered (N, n)) (take (wordsFor n) w ++ replicate (m - wordsFor n) 0)
 
 -- ---- demand 3: a listing of an accepted circuit is refused (42) exactly if it has more prime implicants than the capacity; else every
 -- node's entries are all its prime implicants, each once, in order, and nothing else; no node has more than the last

@@ -1,5 +1,5 @@
 -- What the proofs of this crate share.
-use Prim.Native.Nat.{ℕ, _+_, _*_, _≤_, _<_}
+use Prim.Native.Nat.{ℕ, _+_, _*_, _≤_}
 use mathlib.Core.Path.{_≡_, ap₂, _∙_}
 use mathlib.Core.List.{List}
 use native.Mathlib.Omega.{arith}
@@ -7,7 +7,7 @@ use lib.ListN.{length, getD, set, length-set}
 use lib.Seq.{getD-set-same, getD-set-other}
 use Rattle.terms.specs.Term.{term}
 use Rattle.terms.specs.declared.Term.{Term}
-use Rattle.hints.specs.Kept.{keptAt, Put}
+use Rattle.hints.specs.Kept.{Put}
 
 -- both masks are stored
 pub stored : (l : List ℕ) (k : ℕ) (t : Term) → 2 * k + 2 ≤ length l

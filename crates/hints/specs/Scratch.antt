@@ -13,24 +13,24 @@ abbrev pub maxWords : ℕ
 maxWords = 64
 
 -- how many words the bits of n terms take
-abbrev pub wordsFor : ℕ → ℕ
-wordsFor n = (n + 63) / wordBits
+abbrev pub bitWords : ℕ → ℕ
+bitWords n = (n + 63) / wordBits
 
 -- how many variables have columns
 abbrev pub columnVariables : ℕ
 columnVariables = 40
 
 -- how many columns a list has: one for each literal
-abbrev pub literals : ℕ
-literals = 2 * columnVariables
+abbrev pub columnCount : ℕ
+columnCount = 2 * columnVariables
 
 -- there is place for columns of so many words
 abbrev pub HasColumns : ℕ → List ℕ → Type 0
-HasColumns words columns = literals * words ≤ length columns
+HasColumns words columns = columnCount * words ≤ length columns
 
 -- each half of the columns has place for those of either list, which have m and n terms
 abbrev pub HasHalves : ℕ → ℕ → List ℕ → Type 0
-HasHalves m n columns = (literals * wordsFor m ≤ length columns / 2) × (literals * wordsFor n ≤ length columns / 2)
+HasHalves m n columns = (columnCount * bitWords m ≤ length columns / 2) × (columnCount * bitWords n ≤ length columns / 2)
 
 -- what a row costs at most: 1, and all words for each kept term
 abbrev pub maxCost : ℕ

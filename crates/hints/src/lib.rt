@@ -9,7 +9,7 @@ ghost use Rattle.masks.specs.Mask.{width};
 ghost use Rattle.terms.specs.Term.{inside};
 ghost use Rattle.lists.specs.Capacity.{maxCapacity};
 ghost use Rattle.hints.specs.Kept.{keptAt, Put};
-ghost use Rattle.hints.specs.Scratch.{wordBits, maxWords, wordsFor, columnVariables, literals, HasColumns, maxCost};
+ghost use Rattle.hints.specs.Scratch.{wordBits, maxWords, bitWords, columnVariables, columnCount, HasColumns, maxCost};
 use lists::MAX_CAPACITY;
 use terms::Term;
 
@@ -82,9 +82,9 @@ pub fn set_hint(hints: &mut [u16], k: usize, place: usize)
 }
 
 // How many words the bits of n terms take.
-pub fn words_for(n: usize) -> usize
+pub fn bit_words(n: usize) -> usize
     requires { ⌜ n ≤ maxCapacity ⌝ }
-    ensures { λ r. ⌜ (r ≡ wordsFor n) × (r ≤ maxWords) × (n ≤ wordBits * r) ⌝ }
+    ensures { λ r. ⌜ (r ≡ bitWords n) × (r ≤ maxWords) × (n ≤ wordBits * r) ⌝ }
 {
     (n + 63) / WORD_BITS
 }
@@ -106,8 +106,8 @@ fn without_lowest(mask: u64) -> u64
 
 // Where the column of literal l starts.
 fn column_of(words: usize, l: usize) -> usize
-    requires { ⌜ (words ≤ maxWords) × (l < literals) ⌝ }
-    ensures { λ r. ⌜ r + words ≤ literals * words ⌝ }
+    requires { ⌜ (words ≤ maxWords) × (l < columnCount) ⌝ }
+    ensures { λ r. ⌜ r + words ≤ columnCount * words ⌝ }
 {
     words * l
 }
@@ -140,11 +140,11 @@ fn mark(columns: &mut [u64], words: usize, first: usize, word: usize, bit: u64, 
 // The columns of a list: bit i % 64 of entry words * l + i / 64 says that term i has literal l, which is the positive one of variable l
 // below 40 and from there on the negative one of variable l - 40.
 pub fn fill_columns(columns: &mut [u64], positives: &[u64], negatives: &[u64])
-    requires { ⌜ HasColumns (wordsFor (length (now positives))) (now columns) × (length (now negatives) ≡ length (now positives))
+    requires { ⌜ HasColumns (bitWords (length (now positives))) (now columns) × (length (now negatives) ≡ length (now positives))
         × (length (now positives) ≤ maxCapacity) ⌝ }
     ensures { λ _. ⌜ length (now (columns .exit)) ≡ length (now (columns .entry)) ⌝ }
 {
-    let words = words_for(positives.len());
+    let words = bit_words(positives.len());
     clear(columns, LITERALS * words);
     for i in 0..positives.len() {
         let bit = 1u64 << (i % WORD_BITS);
@@ -291,7 +291,7 @@ fn gather(
     requires { ⌜ (2 * count ≤ length (now kept)) × (length (now left) ≡ maxWords) ⌝ }
     requires { ⌜ (length (now bn) ≡ length (now bp)) × (length (now bp) ≤ maxCapacity) ⌝ }
 {
-    clear(left, words_for(bp.len()));
+    clear(left, bit_words(bp.len()));
     let mut all = t;
     for k in from..bp.len() {
         let u = Term {
@@ -349,12 +349,12 @@ pub fn renew(
     t: Term,
 ) -> usize
     requires { ⌜ (count ≤ maxCapacity) × (2 * count ≤ length (now kept)) × (length (now left) ≡ maxWords) ⌝ }
-    requires { ⌜ HasColumns (wordsFor (length (now bp))) (now columns) × (length (now bn) ≡ length (now bp))
+    requires { ⌜ HasColumns (bitWords (length (now bp))) (now columns) × (length (now bn) ≡ length (now bp))
         × (length (now bp) ≤ maxCapacity) ⌝ }
     ensures { λ r. ⌜ (r ≤ maxCost) × (length (now (hints .exit)) ≡ length (now (hints .entry)))
         × (length (now (left .exit)) ≡ length (now (left .entry))) ⌝ }
 {
-    let words = words_for(bp.len());
+    let words = bit_words(bp.len());
     let all = gather(left, hints, kept, count, bp, bn, from, t);
     spread_kept(hints, left, columns, kept, count, words, all, t)
 }

@@ -1,13 +1,11 @@
 -- What is left in slices when a list was made in their front, and then a longer one.
 use Prim.Native.Nat.{ℕ, _+_, _-_, _≤_}
-use mathlib.Core.Path.{_≡_, sym, ap, ap₂, subst, _∙_}
+use mathlib.Core.Path.{_≡_, sym, ap, ap₂, _∙_}
 use mathlib.Core.Bool.{Bool, true, false}
 use mathlib.Core.List.{List, _++_}
 use native.Mathlib.Omega.{arith}
 use lib.ListN.{length, take, drop, length-append, length-drop}
 use lib.Seq.{take-at, drop-at, drop-drop}
-use Rattle.terms.specs.Lists.{Rising}
-use Rattle.terms.specs.Order.{before}
 use Rattle.terms.specs.Term.{termsOf}
 use Rattle.terms.specs.declared.Term.{Term}
 use Rattle.insertion.specs.Filled.{held, masksOf, keptOf, Filled}
@@ -38,9 +36,6 @@ module _ (m : List Term) (s₀ s : Bool → List ℕ) (ev : Even s₀) (c : ℕ)
       ap length (is-laid b) ∙ length-append (masksOf b m) (drop c (s₀ b))
       ∙ ap₂ _+_ (size b) (length-drop c (s₀ b)) ∙ omega arith
 
-  pub filled-even : Even s
-  filled-even b = filled-length b ∙ ev b ∙ sym (filled-length true)
-
   pub filled-fits : c ≤ length (s true)
   filled-fits = omega (arith, told, filled-length true)
 
@@ -51,10 +46,6 @@ module _ (m : List Term) (s₀ s : Bool → List ℕ) (ev : Even s₀) (c : ℕ)
     where
       front : (b : Bool) → take c (s b) ≡ masksOf b m
       front b = ap (take c) (is-laid b) ∙ take-at (masksOf b m) (drop c (s₀ b)) c (size b)
-
-  -- in order, where it is
-  pub filled-rising : Rising before m → Rising before (held s c)
-  filled-rising r = subst (Rising before) (sym filled-held) r
 
   -- a longer list made after it is made in s₀
   pub filled-then : (l : List Term) (s′ : Bool → List ℕ) (k : Kept) → length m ≤ length l → Filled l s s′ k → Filled l s₀ s′ k

@@ -69,6 +69,13 @@ kept-full capacity l e = go (leb (length l) capacity) refl e
     go true q e = let z : _≡_ {A = ℕ} 0 1 = cc in absurd (omega arith)
     go false q e = leb-false (length l) capacity q
 
+-- and the other way round
+pub count-kept : (capacity : ℕ) (l : List Term) → length l ≤ capacity → Count (length l) ≡ keptOf capacity l
+count-kept capacity l h = ap (λ (t : Bool). cond t (Count (length l)) Full) (sym (le-leb (length l) capacity h))
+
+pub full-kept : (capacity : ℕ) (l : List Term) → capacity < length l → Full ≡ keptOf capacity l
+full-kept capacity l h = ap (λ (t : Bool). cond t (Count (length l)) Full) (sym (lt-leb (length l) capacity h))
+
 -- ---- a list that was made, or does not fit
 module _ (l : List Term) (s s′ : Bool → List ℕ) where
   pub filled-count : (n : ℕ) → length l ≡ n → n ≤ length (s true) → ((b : Bool) → s′ b ≡ masksOf b l ++ drop n (s b))

@@ -6,7 +6,8 @@ use mathlib.Core.List.{List}
 use lib.Dec.{T, leb→le}
 use lib.ListN.{length}
 use Rattle.masks.proofs.Tests.{and-l, and-r}
-use Rattle.table.specs.Node.{nodeWords, maxNodes}
+use Rattle.table.specs.Layout.{wordsFor}
+use Rattle.table.specs.Node.{maxNodes}
 use Rattle.circuits.proofs.Accepted.{Accepted}
 use Rattle.lists.specs.Capacity.{maxCapacity}
 use Rattle.listing.specs.Listing.{suffices, Lent}
@@ -18,8 +19,8 @@ module _ {N n : ℕ} {w : List ℕ} (acc : Accepted N n w) where
   pub nodes-le : n ≤ maxNodes
   nodes-le = leb→le n maxNodes (let r = acc .range in search (and-l, and-r))
 
-  pub words-enough : nodeWords * n ≤ length w
-  words-enough = leb→le (nodeWords * n) (length w) (let r = acc .range in search (and-l, and-r))
+  pub words-enough : wordsFor n ≤ length w
+  words-enough = leb→le (wordsFor n) (length w) (let r = acc .range in search (and-l, and-r))
 
 -- buffers that are large enough
 pub record Enough (n R : ℕ) (b : Lent) : Type 0 where

@@ -1,83 +1,91 @@
 -- A node's part of the buffers, and its children's terms there, as the table of listed nodes gives them.
-use Prim.Native.Nat.{ℕ, _+_, _*_, _≤_, _<_}
-use mathlib.Core.Path.{_≡_, sym, ap, subst, _∙_}
+use Prim.Native.Nat.{ℕ, _+_, _*_, _≤_, _<_, zero-le}
+use mathlib.Core.Path.{_≡_, sym, ap, ap₂, subst, _∙_}
 use mathlib.Core.Bool.{Bool, true, false}
+use mathlib.Core.Logic.{⊎-elim}
 use mathlib.Core.List.{List}
-use native.Mathlib.Nat.{mul-le-mul-right, suc-mul}
+use native.Mathlib.Nat.{le-refl, le-trans, le-of-eq, mul-le-mul-right, suc-mul}
 use native.Mathlib.Numerals.{add-one}
 use native.Mathlib.Omega.{arith}
-use lib.ListN.{length, take, drop, getD}
-use Rattle.table.specs.Gate.{gateNode, childAt}
-use Rattle.table.specs.Node.{Node, nodeAt}
+use lib.ListN.{length, getD}
+use Rattle.table.specs.Gate.{ChildrenBelow}
+use Rattle.table.specs.Layout.{wordsAt}
+use Rattle.table.specs.Node.{maxNodes}
+use Rattle.table.specs.declared.gates.Decoded.{Decoded}
+use Rattle.table.specs.declared.layout.Children.{Children}
+use Rattle.table.proofs.Encoding.{node-children, child-word}
+use Rattle.table.proofs.NodePlaces.{lt-or-le}
 use Rattle.circuits.proofs.Accepted.{Accepted}
 use Rattle.lists.specs.Capacity.{maxCapacity}
-use Rattle.nodes.specs.Part.{nodeMade, Given, termsFrom, IsPart}
-use Rattle.nodes.specs.declared.Part.{Part}
-use Rattle.nodes.proofs.Exact.{children-below, given, made-exact}
-use Rattle.nodes.proofs.Parts.{length-part}
+use Rattle.nodes.specs.Part.{nodeMade, NodeGiven, childFrom, childSize, childTerms, termsFrom, Laid, IsPart}
+use Rattle.nodes.specs.declared.NodePart.{NodePart}
+use Rattle.nodes.proofs.Exact.{given, made-exact}
 use Rattle.listing.specs.Listing.{nodePrimes}
+use Rattle.listing.proofs.Bounds.{nodes-le}
 use Rattle.listing.proofs.Table.{State, state-length, count-le, terms-back}
-
--- what is given of terms is given of them wherever they stand
-given-there : (z y : Node) (c a d b c′ a′ d′ b′ : ℕ) (s : Bool → List ℕ) → z ≡ y → c ≡ c′ → a ≡ a′ → d ≡ d′ → b ≡ b′
-    → Given y (take c′ (drop a′ (s true))) (take c′ (drop a′ (s false))) (take d′ (drop b′ (s true))) (take d′ (drop b′ (s false)))
-    → Given z (take c (drop a (s true))) (take c (drop a (s false))) (take d (drop b (s true))) (take d (drop b (s false)))
-given-there z y c a d b c′ a′ d′ b′ s e p q r t g =
-    subst (λ (n : Node). Given n (take c (drop a (s true))) (take c (drop a (s false))) (take d (drop b (s true))) (take d (drop b (s false))))
-    (sym e)
-    (subst (λ (n : ℕ). Given y (take n (drop a (s true))) (take n (drop a (s false))) (take d (drop b (s true))) (take d (drop b (s false))))
-    (sym p)
-    (subst (λ (n : ℕ). Given y (take c′ (drop n (s true))) (take c′ (drop n (s false))) (take d (drop b (s true))) (take d (drop b (s false))))
-    (sym q)
-    (subst (λ (n : ℕ). Given y (take c′ (drop a′ (s true))) (take c′ (drop a′ (s false))) (take n (drop b (s true))) (take n (drop b (s false))))
-    (sym r)
-    (subst
-    (λ (n : ℕ). Given y (take c′ (drop a′ (s true))) (take c′ (drop a′ (s false))) (take d′ (drop n (s true))) (take d′ (drop n (s false))))
-    (sym t) g))))
 
 module _ {N n : ℕ} {w : List ℕ} (acc : Accepted N n w) {R i : ℕ} {s : Bool → List ℕ} {cs : List ℕ} (st : State N w R n i s cs) (lt : i < n)
     (small : R ≤ maxCapacity) where
-  abbrev y : Node
-  y = nodeAt w i
-
-  -- a child's part stands in the buffers
-  pub child-fits : (a : ℕ) → a ≤ i → (b : Bool) → a * R + R ≤ length (s b)
-  child-fits a h b =
+  -- the part of a node up to i stands in the buffers
+  pub part-fits : (a : ℕ) → a ≤ i → (b : Bool) → a * R + R ≤ length (s b)
+  part-fits a h b =
       let m : a * R ≤ i * R = mul-le-mul-right R h in
       let k : (i + 1) * R ≤ n * R = mul-le-mul-right R (omega arith) in
       let e : length (s b) ≡ n * R = state-length st (omega arith) b in
-      let d : (i + 1) * R ≡ i * R + R = next-part in
+      let d : (i + 1) * R ≡ i * R + R = next-part i in
       omega (arith, m, k, e, d)
     where
-      next-part : (i + 1) * R ≡ i * R + R
-      next-part = ap (λ (m : ℕ). m * R) (add-one i) ∙ suc-mul i R
+      next-part : (i : ℕ) → (i + 1) * R ≡ i * R + R
+      next-part i = ap (λ (m : ℕ). m * R) (add-one i) ∙ suc-mul i R
 
-  child-size : (a : ℕ) → a ≤ i → (b : Bool) → length (take (getD cs a 0) (drop (a * R) (s b))) ≡ getD cs a 0
-  child-size a h b =
-      length-part (a * R) (getD cs a 0) (s b) (let k : getD cs a 0 ≤ R = count-le st lt a in omega (arith, k, child-fits a h b))
+  -- the part of a node below i stands before its own
+  part-before : (a : ℕ) → a < i → a * R + R ≤ i * R
+  part-before a h =
+      let m : (a + 1) * R ≤ i * R = mul-le-mul-right R (omega arith) in
+      omega (arith, m, ap (λ (k : ℕ). k * R) (add-one a) ∙ suc-mul a R)
 
-  module _ (p : Part) (is : IsPart y cs i R p) where
-    pub part-given : Given (gateNode (p .gate)) (take (p .low .count) (drop (p .low .from) (s true)))
-        (take (p .low .count) (drop (p .low .from) (s false))) (take (p .high .count) (drop (p .high .from) (s true)))
-        (take (p .high .count) (drop (p .high .from) (s false)))
-    part-given =
-        let (l, m) = children-below acc i lt in
-        let a : ℕ = childAt y 0 in
-        let b : ℕ = childAt y 1 in
-        given-there (gateNode (p .gate)) y (p .low .count) (p .low .from) (p .high .count) (p .high .from) (getD cs a 0) (a * R) (getD cs b 0)
-        (b * R) s (is .gate) (is .low-count) (is .low-from) (is .high-count) (is .high-from)
-        (given acc i lt (take (getD cs a 0) (drop (a * R) (s true))) (take (getD cs a 0) (drop (a * R) (s false)))
-        (take (getD cs b 0) (drop (b * R) (s true))) (take (getD cs b 0) (drop (b * R) (s false)))
-        (child-size a l false ∙ sym (child-size a l true)) (child-size b m false ∙ sym (child-size b m true))
-        (let k : getD cs a 0 ≤ R = count-le st lt a in omega (arith, k, child-size a l true))
-        (let k : getD cs b 0 ≤ R = count-le st lt b in omega (arith, k, child-size b m true))
-        (λ c k. (
-          λ e. subst (λ (z : ℕ). termsFrom s (z * R) (getD cs z 0) ≡ nodePrimes N w c) e (terms-back st lt c k),
-          λ e. subst (λ (z : ℕ). termsFrom s (z * R) (getD cs z 0) ≡ nodePrimes N w c) e (terms-back st lt c k),
-        )))
+  module _ (p : NodePart) (is : IsPart w cs i R p) where
+    same : p .children ≡ wordsAt w i .children
+    same = ap (λ (z : Decoded). z .children) (is .node)
 
-    pub part-made : nodeMade (gateNode (p .gate)) (termsFrom s (p .low .from) (p .low .count)) (termsFrom s (p .high .from) (p .high .count))
-        ≡ nodePrimes N w i
-    part-made =
-        (λ j. nodeMade (is .gate j) (termsFrom s (is .low-from j) (is .low-count j)) (termsFrom s (is .high-from j) (is .high-count j)))
-        ∙ made-exact acc i lt (λ c. termsFrom s (c * R) (getD cs c 0)) (terms-back st lt)
+    children : ChildrenBelow i (p .children)
+    children = subst (ChildrenBelow i) (sym same) (node-children N i w (acc .well i lt))
+
+    word-le : (j : ℕ) → getD (p .children .nodes) j 0 ≤ i
+    word-le j = subst (λ (z : Children). getD (z .nodes) j 0 ≤ i) (sym same) (child-word N i w (acc .well i lt) j)
+
+    from-is : (j : ℕ) → childFrom p j ≡ getD (p .children .nodes) j 0 * R
+    from-is j = ap (λ (m : ℕ). getD (p .children .nodes) j 0 * m) (is .capacity-is)
+
+    size-le : (j : ℕ) → childSize p j ≤ R
+    size-le j =
+        ⊎-elim
+        (λ (l : j < p .children .count). le-trans (le-of-eq (is .sized .used j l)) (count-le st lt (getD (p .children .nodes) j 0)))
+        (λ (l : p .children .count ≤ j). le-trans (le-of-eq (is .sized .unused j l)) zero-le)
+        (lt-or-le j (p .children .count))
+
+    pub part-lies : Laid s p
+    part-lies =
+        let most : n ≤ maxNodes = nodes-le acc in
+        record {
+          small = omega (arith, is .capacity-is);
+          inside = omega (arith, is .capacity-is, is .at, part-fits i (le-refl i) true);
+          even = state-length st (omega arith) false ∙ sym (state-length st (omega arith) true);
+          few = children .few;
+          sizes = λ j. omega (arith, is .capacity-is, size-le j);
+          below = λ j l.
+              omega (arith, is .capacity-is, is .at, from-is j, part-before (getD (p .children .nodes) j 0) (children .each j l));
+          words = λ j. omega (arith, word-le j);
+          there = λ j. omega (arith, is .capacity-is, from-is j, part-fits (getD (p .children .nodes) j 0) (word-le j) true);
+        }
+
+    listed : (j : ℕ) → j < p .children .count → childTerms s p j ≡ nodePrimes N w (getD (p .children .nodes) j 0)
+    listed j l =
+        ap₂ (termsFrom s) (from-is j) (is .sized .used j l)
+        ∙ terms-back st lt (getD (p .children .nodes) j 0) (children .each j l)
+
+    pub part-given : NodeGiven s p (p .gate)
+    part-given = given acc i lt s p (is .node) part-lies listed
+
+    pub part-made : nodeMade (p .gate) (p .children .count) (childTerms s p) ≡ nodePrimes N w i
+    part-made = made-exact acc i lt s p (is .node) part-lies listed

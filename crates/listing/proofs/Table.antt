@@ -179,9 +179,6 @@ module _ {N : ℕ} {w : List ℕ} {R n i : ℕ} {s : Bool → List ℕ} {cs : Li
   next-part : i * R + R ≤ n * R
   next-part = let m : suc i * R ≤ n * R = mul-le-mul-right R lt in omega (arith, suc-mul i R)
 
-  pub state-part : i * R + R ≤ length (s true)
-  state-part = rw (state-length st (omega arith) true) next-part
-
   -- every count is at most R
   pub count-le : (k : ℕ) → getD cs k 0 ≤ R
   count-le k = ⊎-elim listed-one past (decide (ltb k i))
@@ -216,7 +213,8 @@ module _ {N : ℕ} {w : List ℕ} {R n i : ℕ} {s : Bool → List ℕ} {cs : Li
 
   -- node i is listed
   pub state-more : (s′ : Bool → List ℕ) (cs′ : List ℕ) → length (rows N w R i) ≤ R
-      → ((b : Bool) → s′ b ≡ laidAt (i * R) R (masksOf b (rows N w R i)) (s b)) → cs′ ≡ set cs i (length (rows N w R i)) → State N w R n (suc i) s′ cs′
+      → ((b : Bool) → s′ b ≡ laidAt (i * R) R (masksOf b (rows N w R i)) (s b)) → cs′ ≡ set cs i (length (rows N w R i))
+      → State N w R n (suc i) s′ cs′
   state-more s′ cs′ h hs hc =
       record {
         fit = λ c l. ⊎-elim (λ (e : c ≡ i). subst (λ (d : ℕ). length (rows N w R d) ≤ R) (sym e) h) (st .fit c) (below-suc l);

@@ -77,7 +77,7 @@ fn fill_all(
     let mut i = 0;
     while i < n {
         let part = nodes::part_of(words, counts, i, capacity);
-        let Kept::Count(c) = nodes::fill_part(
+        let Kept::Count(c) = nodes::fill_node(
             positives,
             negatives,
             &mut ap,

@@ -2,8 +2,6 @@
 ghost use mathlib.Core.Path.{_≡_};
 ghost use Prim.Native.Nat.{_<_};
 ghost use lib.ListN.{length};
-ghost use Rattle.terms.specs.Lists.{any};
-ghost use Rattle.terms.specs.Term.{inside, termsOf};
 ghost use Rattle.lists.specs.Scans.{termAt, short, narrowed, Found};
 use terms::Term;
 
@@ -25,21 +23,6 @@ pub fn term_at(positives: &[u64], negatives: &[u64], k: usize) -> Term
         positive: positives[k],
         negative: negatives[k],
     }
-}
-
-// Some term of the list is inside t.
-pub fn holds_one(positives: &[u64], negatives: &[u64], t: Term) -> bool
-    requires { ⌜ length (now negatives) ≡ length (now positives) ⌝ }
-    ensures { λ r. ⌜ r ≡ any (λ u. inside u t) (termsOf (now (positives .entry)) (now (negatives .entry))) ⌝ }
-{
-    let mut k = 0;
-    while k < positives.len() {
-        if terms::inside(term_at(positives, negatives, k), t) {
-            return true;
-        }
-        k += 1;
-    }
-    false
 }
 
 // b is inside t, and a literal of t is neither in a nor in b.

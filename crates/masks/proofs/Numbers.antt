@@ -24,6 +24,13 @@ unfolding every
 every-i zero p h = tt
 every-i (suc n) p h = and-i (p n) (every n p) (h n (le-refl (suc n))) (every-i n p (λ i l. h i (omega arith)))
 
+pub every-fails : (n : ℕ) (p : ℕ → Bool) (i : ℕ) → i < n → p i ≡ false → every n p ≡ false
+every-fails n p i l e = by (every n p) refl
+  where
+    by : (b : Bool) → every n p ≡ b → every n p ≡ false
+    by true d = absurd (along e (every-e n p (along (sym d) tt) i l))
+    by false d = d
+
 -- the lowest number apart
 pub every-first : (n : ℕ) (p : ℕ → Bool) → every (suc n) p ≡ (p 0 && every n (λ i. p (suc i)))
 unfolding every

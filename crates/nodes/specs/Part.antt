@@ -1,37 +1,43 @@
 -- A node's part of the buffers, and what is made there. No public contract rests on these.
-use Prim.Native.Nat.{ℕ, _*_, _≤_, _<_}
+use Prim.Native.Nat.{ℕ, zero, suc, _+_, _-_, _*_, _≤_, _<_}
 use mathlib.Core.Path.{_≡_}
 use mathlib.Core.Bool.{Bool, true, false, cond}
 use mathlib.Core.List.{List, [], _∷_, _++_}
 use lib.ListN.{length, take, drop, getD}
 use Rattle.masks.specs.Mask.{width}
-use Rattle.table.specs.Gate.{childAt, gateNode}
-use Rattle.table.specs.Node.{Node, constant, literal, decision, conjunction, unknown}
+use Rattle.table.specs.Gate.{decodedAt}
+use Rattle.table.specs.Layout.{maxChildren}
+use Rattle.table.specs.Node.{maxNodes}
+use Rattle.table.specs.declared.gates.Gate.{Gate}
+use Rattle.table.specs.declared.gates.Gate.the-variants.{Constant, Literal, Decision, Conjunction, Unknown}
+use Rattle.table.specs.declared.layout.Children.{Children}
 use Rattle.terms.specs.Joins.{joins, decisionTerms}
 use Rattle.terms.specs.Lists.{sort}
 use Rattle.terms.specs.Order.{before}
 use Rattle.terms.specs.Term.{empty, extend, termsOf}
 use Rattle.terms.specs.declared.Term.{Term}
+use Rattle.lists.specs.Capacity.{maxCapacity}
 use Rattle.insertion.specs.Filled.{masksOf, laid, keptOf}
 use Rattle.insertion.specs.declared.Kept.{Kept}
-use Rattle.settling.specs.Sides.{SidesAt, DecidedAt}
-use Rattle.nodes.specs.declared.Part.{Part}
+use Rattle.settling.specs.Sides.{Sides, SidesAt, DecidedAt}
+use Rattle.nodes.specs.declared.NodePart.{NodePart}
 
--- what is made of a node from the terms l and k of its children
-abbrev pub nodeMade : Node → List Term → List Term → List Term
-nodeMade (constant b) l k = cond b (empty ∷ []) []
-nodeMade (literal b x) l k = extend empty x b ∷ []
-nodeMade (decision x a b) l k = sort before (decisionTerms x l k)
-nodeMade (conjunction cs) l k = sort before (joins l (joins k (empty ∷ [])))
-nodeMade unknown l k = []
+-- ---- two lists
+-- what is made of a gate from two lists: the terms of two children, or a child's and the joins of those after it
+abbrev pub gateMade : Gate → List Term → List Term → List Term
+gateMade (Constant b) l k = cond b (empty ∷ []) []
+gateMade (Literal b x) l k = extend empty x b ∷ []
+gateMade (Decision x a b) l k = sort before (decisionTerms x l k)
+gateMade Conjunction l k = sort before (joins l k)
+gateMade Unknown l k = []
 
--- what is taken for granted of its children's terms: they are prime implicants in order, a decision's variable is in none of them
-abbrev pub Given : Node → List ℕ → List ℕ → List ℕ → List ℕ → Type 0
-Given (constant b) ap an bp bn = Unit {0}
-Given (literal b x) ap an bp bn = x < width
-Given (decision x a b) ap an bp bn = DecidedAt x ap an bp bn
-Given (conjunction cs) ap an bp bn = SidesAt ap an bp bn
-Given unknown ap an bp bn = Unit {0}
+-- what is taken for granted of these terms: they are prime implicants in order, a decision's variable is in none of them
+abbrev pub Given : Gate → List ℕ → List ℕ → List ℕ → List ℕ → Type 0
+Given (Constant b) ap an bp bn = Unit {0}
+Given (Literal b x) ap an bp bn = x < width
+Given (Decision x a b) ap an bp bn = DecidedAt x ap an bp bn
+Given Conjunction ap an bp bn = SidesAt ap an bp bn
+Given Unknown ap an bp bn = Unit {0}
 
 -- the count terms that stand from `at` on
 abbrev pub termsFrom : (Bool → List ℕ) → ℕ → ℕ → List Term
@@ -46,12 +52,74 @@ pub record PartFilled (l : List Term) (at capacity : ℕ) (s s′ : Bool → Lis
   pub answer : k ≡ keptOf capacity l
   pub masks : length l ≤ capacity → (b : Bool) → s′ b ≡ laidAt at capacity (masksOf b l) (s b)
 
--- the part of node i, and where its children's terms stand
-pub record IsPart (y : Node) (counts : List ℕ) (i capacity : ℕ) (p : Part) : Type 0 where
-  pub gate : gateNode (p .gate) ≡ y
+-- ---- up to eight lists, v j being the terms of the child at place j
+-- the lists of m places from j on, joined in order: the last one, and then each with the joins of those after it
+abbrev pub joined : (ℕ → List Term) → ℕ → ℕ → List Term
+joined v j zero = empty ∷ []
+joined v j (suc zero) = v j
+joined v j (suc (suc m)) = sort before (joins (v j) (joined v (suc j) (suc m)))
+
+-- what is made of a gate from the terms of its children; count is the number of a conjunction's
+abbrev pub nodeMade : Gate → ℕ → (ℕ → List Term) → List Term
+nodeMade (Constant b) count v = gateMade (Constant b) (v 0) (v 1)
+nodeMade (Literal b x) count v = gateMade (Literal b x) (v 0) (v 1)
+nodeMade (Decision x a b) count v = gateMade (Decision x a b) (v 0) (v 1)
+nodeMade Conjunction count v = joined v 0 count
+nodeMade Unknown count v = gateMade Unknown (v 0) (v 1)
+
+-- the place of the last child that is used: the second, or a conjunction's last
+abbrev pub lastPlace : Gate → ℕ → ℕ
+lastPlace (Constant b) count = 1
+lastPlace (Literal b x) count = 1
+lastPlace (Decision x a b) count = 1
+lastPlace Conjunction count = count - 1
+lastPlace Unknown count = 1
+
+-- where the terms of the child at place j start, and how many there are
+abbrev pub childFrom : NodePart → ℕ → ℕ
+childFrom p j = getD (p .children .nodes) j 0 * p .capacity
+
+abbrev pub childSize : NodePart → ℕ → ℕ
+childSize p j = getD (p .sizes) j 0
+
+abbrev pub childTerms : (Bool → List ℕ) → NodePart → ℕ → List Term
+childTerms s p j = termsFrom s (childFrom p j) (childSize p j)
+
+-- each of a conjunction's lists goes with the joins of those after it, which are no more than the next
+pub record Conjoined (v : ℕ → List Term) (count : ℕ) : Type 0 where
+  pub two : 2 ≤ count
+  pub pairs : (k m : ℕ) → k + suc (suc m) ≡ count → Sides (v k) (joined v (suc k) (suc m))
+  pub grows : (k m : ℕ) → k + suc (suc m) ≡ count → length (joined v (suc k) (suc m)) ≤ length (joined v k (suc (suc m)))
+
+-- what is taken for granted of the terms of a node's children
+abbrev pub NodeGiven : (Bool → List ℕ) → NodePart → Gate → Type 0
+NodeGiven s p (Constant b) = Unit {0}
+NodeGiven s p (Literal b x) = x < width
+NodeGiven s p (Decision x a b) =
+    DecidedAt x (take (childSize p 0) (drop (childFrom p 0) (s true))) (take (childSize p 0) (drop (childFrom p 0) (s false)))
+    (take (childSize p 1) (drop (childFrom p 1) (s true))) (take (childSize p 1) (drop (childFrom p 1) (s false)))
+NodeGiven s p Conjunction = Conjoined (childTerms s p) (p .children .count)
+NodeGiven s p Unknown = Unit {0}
+
+-- the part lies in the buffers, and its children's terms stand below it; a place of no child has the number 0
+pub record Laid (s : Bool → List ℕ) (p : NodePart) : Type 0 where
+  pub small : p .capacity ≤ maxCapacity
+  pub inside : p .at + p .capacity ≤ length (s true)
+  pub even : length (s false) ≡ length (s true)
+  pub few : p .children .count ≤ maxChildren
+  pub sizes : (j : ℕ) → childSize p j ≤ p .capacity
+  pub below : (j : ℕ) → j < p .children .count → childFrom p j + p .capacity ≤ p .at
+  pub words : (j : ℕ) → getD (p .children .nodes) j 0 < maxNodes
+  pub there : (j : ℕ) → childFrom p j + p .capacity ≤ length (s true)
+
+-- r has the counts, among cs, of the first n children, and 0 at the other places
+pub record Sized (cs : List ℕ) (y : Children) (n : ℕ) (r : List ℕ) : Type 0 where
+  pub used : (j : ℕ) → j < n → getD r j 0 ≡ getD cs (getD (y .nodes) j 0) 0
+  pub unused : (j : ℕ) → n ≤ j → getD r j 0 ≡ 0
+
+-- the part of node i of the table w, with counts cs
+pub record IsPart (w cs : List ℕ) (i capacity : ℕ) (p : NodePart) : Type 0 where
+  pub node : record { gate = p .gate; children = p .children } ≡ decodedAt w i
   pub at : p .at ≡ i * capacity
   pub capacity-is : p .capacity ≡ capacity
-  pub low-from : p .low .from ≡ childAt y 0 * capacity
-  pub low-count : p .low .count ≡ getD counts (childAt y 0) 0
-  pub high-from : p .high .from ≡ childAt y 1 * capacity
-  pub high-count : p .high .count ≡ getD counts (childAt y 1) 0
+  pub sized : Sized cs (p .children) (p .children .count) (p .sizes)

@@ -5,14 +5,19 @@ ghost use mathlib.Core.List.{[], _∷_};
 ghost use Prim.Native.Nat.{_+_, _*_, _≤_, _<_};
 ghost use lib.ListN.{length, take, drop, getD};
 ghost use Rattle.masks.specs.Mask.{width};
-ghost use Rattle.table.specs.Gate.{gateNode, childAt};
-ghost use Rattle.table.specs.Node.{nodeAt, nodeWords, maxNodes};
+ghost use Rattle.table.specs.Gate.{ChildrenBelow, decodedAt};
+ghost use Rattle.table.specs.Layout.{wordsFor, maxChildren};
+ghost use Rattle.table.specs.Node.{maxNodes};
 ghost use Rattle.terms.specs.Term.{empty, extend, termsOf};
 ghost use Rattle.lists.specs.Capacity.{maxCapacity};
 ghost use Rattle.insertion.specs.Filled.{bySign, Filled};
-ghost use Rattle.nodes.specs.Part.{nodeMade, Given, termsFrom, PartFilled, IsPart};
+ghost use Rattle.nodes.specs.Part.{gateMade, nodeMade, Given, NodeGiven, termsFrom, childFrom, childSize, childTerms, Laid};
+ghost use Rattle.nodes.specs.Part.{PartFilled, Sized, IsPart, lastPlace};
 use insertion::Kept;
-use table::Gate;
+use table::gates::Gate;
+use table::gates::decode_at;
+use table::layout::Children;
+use table::layout::MAX_CHILDREN;
 use terms::Term;
 
 // Makes the terms of a constant: the term with no literal, or none.
@@ -38,7 +43,7 @@ fn literal(positives: &mut [u64], negatives: &mut [u64], sign: bool, x: u32) -> 
     insertion::insert(positives, negatives, 0, terms::extend(empty, x, sign))
 }
 
-// Makes the terms of a node in the two slices, from the terms a and b of its children.
+// Makes the terms of a gate in the two slices from two lists: those of two children, or a child's and the joins of those after it.
 fn make(
     positives: &mut [u64],
     negatives: &mut [u64],
@@ -48,11 +53,11 @@ fn make(
     bn: &[u64],
     gate: Gate,
 ) -> Kept
-    requires { ⌜ Given (gateNode gate) (now ap) (now an) (now bp) (now bn) ⌝ }
+    requires { ⌜ Given gate (now ap) (now an) (now bp) (now bn) ⌝ }
     requires { ⌜ (length (now negatives) ≡ length (now positives)) × (length (now an) ≡ length (now ap))
         × (length (now bn) ≡ length (now bp)) ⌝ }
     ensures { λ r. ⌜ Filled
-        (nodeMade (gateNode gate) (termsOf (now (ap .entry)) (now (an .entry))) (termsOf (now (bp .entry)) (now (bn .entry))))
+        (gateMade gate (termsOf (now (ap .entry)) (now (an .entry))) (termsOf (now (bp .entry)) (now (bn .entry))))
         (bySign (now (positives .entry)) (now (negatives .entry)))
         (bySign (now (positives .exit)) (now (negatives .exit))) r ⌝ }
 {
@@ -60,7 +65,7 @@ fn make(
         Gate::Constant(value) => constant(positives, negatives, value),
         Gate::Literal(sign, x) => literal(positives, negatives, sign, x),
         Gate::Decision(x, _, _) => decisions::decision(positives, negatives, ap, an, bp, bn, x),
-        Gate::Conjunction(_, _) => joins::conjunction(positives, negatives, ap, an, bp, bn),
+        Gate::Conjunction => joins::conjunction(positives, negatives, ap, an, bp, bn),
         Gate::Unknown => Kept::Count(0),
     }
 }
@@ -83,7 +88,7 @@ pub struct Terms {
     pub count: usize,
 }
 
-// A node's part of the buffers, its gate, and where its children's terms stand.
+// A part of the buffers, a gate, and where its two lists of terms stand.
 pub struct Part {
     pub gate: Gate,
     pub at: usize,
@@ -92,9 +97,9 @@ pub struct Part {
     pub high: Terms,
 }
 
-// Makes the terms of a node in its part. Its children's terms are copied to the fronts of ap, an, bp and bn; what these hold before and
-// after is left free.
-pub fn fill_part(
+// Makes the terms of a gate in the part. Its two lists are copied to the fronts of ap, an, bp and bn; what these hold
+// before and after is left free.
+fn fill_part(
     positives: &mut [u64],
     negatives: &mut [u64],
     ap: &mut [u64],
@@ -103,7 +108,7 @@ pub fn fill_part(
     bn: &mut [u64],
     part: Part,
 ) -> Kept
-    requires { ⌜ Given (gateNode (part .gate)) (take (part .low .count) (drop (part .low .from) (now positives)))
+    requires { ⌜ Given (part .gate) (take (part .low .count) (drop (part .low .from) (now positives)))
         (take (part .low .count) (drop (part .low .from) (now negatives)))
         (take (part .high .count) (drop (part .high .from) (now positives)))
         (take (part .high .count) (drop (part .high .from) (now negatives))) ⌝ }
@@ -113,8 +118,9 @@ pub fn fill_part(
     requires { ⌜ (length (now ap) ≡ maxCapacity) × (length (now an) ≡ maxCapacity) × (length (now bp) ≡ maxCapacity)
         × (length (now bn) ≡ maxCapacity) ⌝ }
     ensures { λ r. ⌜ PartFilled
-        (nodeMade (gateNode (part .gate)) (termsFrom (bySign (now (positives .entry)) (now (negatives .entry))) (part .low .from) (part .low .count))
-        (termsFrom (bySign (now (positives .entry)) (now (negatives .entry))) (part .high .from) (part .high .count))) (part .at) (part .capacity)
+        (gateMade (part .gate) (termsFrom (bySign (now (positives .entry)) (now (negatives .entry))) (part .low .from) (part .low .count))
+        (termsFrom (bySign (now (positives .entry)) (now (negatives .entry))) (part .high .from) (part .high .count)))
+        (part .at) (part .capacity)
         (bySign (now (positives .entry)) (now (negatives .entry)))
         (bySign (now (positives .exit)) (now (negatives .exit))) r ⌝ }
 {
@@ -140,6 +146,88 @@ pub fn fill_part(
     )
 }
 
+// A node's part of the buffers: its gate and children, and how many terms each child has, 0 at the places of none. Those of child c stand
+// from entry c * capacity on.
+pub struct NodePart {
+    pub gate: Gate,
+    pub children: Children,
+    pub sizes: [usize; MAX_CHILDREN],
+    pub at: usize,
+    pub capacity: usize,
+}
+
+// The terms of the child at a place.
+fn child_at(part: NodePart, k: usize) -> Terms
+    requires { ⌜ (k < maxChildren) × (getD (part .children .nodes) k 0 < maxNodes) × (part .capacity ≤ maxCapacity) ⌝ }
+    ensures { λ r. ⌜ (r .from ≡ childFrom part k) × (r .count ≡ childSize part k) ⌝ }
+{
+    let children = part.children;
+    let nodes = children.nodes;
+    let sizes = part.sizes;
+    Terms {
+        from: (nodes[k] as usize) * part.capacity,
+        count: sizes[k],
+    }
+}
+
+// The place of the last child that is used: the second, or a conjunction's last.
+fn last_place(gate: Gate, count: u32) -> usize
+    requires { ⌜ 1 ≤ lastPlace gate count ⌝ }
+    ensures { λ r. ⌜ r ≡ lastPlace gate count ⌝ }
+{
+    match gate {
+        Gate::Constant(_) => 1,
+        Gate::Literal(_, _) => 1,
+        Gate::Decision(_, _, _) => 1,
+        Gate::Conjunction => (count as usize) - 1,
+        Gate::Unknown => 1,
+    }
+}
+
+// Makes the terms of a node in its part. Those of a conjunction's last child but one are joined with the last one's, and then each
+// child's with what is there: a list of joins is no longer than the next, so that the part is enough for each. Other gates take one turn.
+pub fn fill_node(
+    positives: &mut [u64],
+    negatives: &mut [u64],
+    ap: &mut [u64],
+    an: &mut [u64],
+    bp: &mut [u64],
+    bn: &mut [u64],
+    part: NodePart,
+) -> Kept
+    requires { ⌜ Laid (bySign (now positives) (now negatives)) part
+        × NodeGiven (bySign (now positives) (now negatives)) part (part .gate) ⌝ }
+    requires { ⌜ (length (now ap) ≡ maxCapacity) × (length (now an) ≡ maxCapacity) × (length (now bp) ≡ maxCapacity)
+        × (length (now bn) ≡ maxCapacity) ⌝ }
+    ensures { λ r. ⌜ PartFilled
+        (nodeMade (part .gate) (part .children .count) (childTerms (bySign (now (positives .entry)) (now (negatives .entry))) part))
+        (part .at) (part .capacity) (bySign (now (positives .entry)) (now (negatives .entry)))
+        (bySign (now (positives .exit)) (now (negatives .exit))) r ⌝ }
+{
+    let gate = part.gate;
+    let children = part.children;
+    let mut k = last_place(gate, children.count);
+    let mut high = child_at(part, k);
+    while 0 < k {
+        k -= 1;
+        let pair = Part {
+            gate,
+            at: part.at,
+            capacity: part.capacity,
+            low: child_at(part, k),
+            high,
+        };
+        let Kept::Count(c) = fill_part(positives, negatives, ap, an, bp, bn, pair) else {
+            return Kept::Full;
+        };
+        high = Terms {
+            from: part.at,
+            count: c,
+        };
+    }
+    Kept::Count(high.count)
+}
+
 // Entry k, as an index.
 fn count_at(counts: &[u32], k: usize) -> usize
     requires { ⌜ k < length (now counts) ⌝ }
@@ -148,34 +236,37 @@ fn count_at(counts: &[u32], k: usize) -> usize
     counts[k] as usize
 }
 
-// The terms of a child, in buffers of so many entries a node.
-fn terms_of(counts: &[u32], k: usize, capacity: usize) -> Terms
-    requires { ⌜ (k < maxNodes) × (capacity ≤ maxCapacity) × (k < length (now counts)) ⌝ }
-    ensures { λ r. ⌜ (r .from ≡ k * capacity) × (r .count ≡ getD (now (counts .entry)) k 0) ⌝ }
+// How many terms each child has, 0 at the places of none.
+fn sizes_of(counts: &[u32], children: Children) -> [usize; MAX_CHILDREN]
+    requires { ⌜ (length (now counts) ≤ maxNodes) × ChildrenBelow (length (now counts)) children ⌝ }
+    ensures { λ r. ⌜ Sized (now (counts .entry)) children (children .count) r ⌝ }
 {
-    Terms {
-        from: k * capacity,
-        count: count_at(counts, k),
+    let nodes = children.nodes;
+    let count = children.count as usize;
+    let mut sizes = [0usize; MAX_CHILDREN];
+    let mut k = 0;
+    while k < count {
+        sizes[k] = count_at(counts, nodes[k] as usize);
+        k += 1;
     }
+    sizes
 }
 
 // The part of node i.
-pub fn part_of(words: &[u32], counts: &[u32], i: usize, capacity: usize) -> Part
-    requires { ⌜ (i < maxNodes) × (capacity ≤ maxCapacity) × (nodeWords * i + nodeWords ≤ length (now words)) × (i < length (now counts)) ⌝ }
-    requires { ⌜ (childAt (nodeAt (now words) i) 0 ≤ i) × (childAt (nodeAt (now words) i) 1 ≤ i) ⌝ }
-    ensures { λ r. ⌜ IsPart (nodeAt (now (words .entry)) i) (now (counts .entry)) i capacity r ⌝ }
+pub fn part_of(words: &[u32], counts: &[u32], i: usize, capacity: usize) -> NodePart
+    requires { ⌜ (i < maxNodes) × (capacity ≤ maxCapacity) × (wordsFor (i + 1) ≤ length (now words)) ⌝ }
+    requires { ⌜ (length (now counts) ≤ maxNodes) × ChildrenBelow (length (now counts)) (decodedAt (now words) i .children) ⌝ }
+    ensures { λ r. ⌜ IsPart (now (words .entry)) (now (counts .entry)) i capacity r ⌝ }
 {
-    let gate = table::gate_at(words, i);
-    let below = table::children_of(gate);
-    let a = below.left;
-    let b = below.right;
-    let low = terms_of(counts, a, capacity);
-    let high = terms_of(counts, b, capacity);
-    Part {
+    let node = decode_at(words, i);
+    let gate = node.gate;
+    let children = node.children;
+    let sizes = sizes_of(counts, children);
+    NodePart {
         gate,
+        children,
+        sizes,
         at: i * capacity,
         capacity,
-        low,
-        high,
     }
 }

@@ -1,15 +1,13 @@
 // All pairs of terms of the two sides, row by row: the side whose rows cost less goes on.
-ghost use mathlib.Core.Path.{_≡_};
 ghost use Prim.Native.Nat.{_*_, _≤_, _<_};
 ghost use lib.ListN.{length};
 ghost use Rattle.terms.specs.Term.{termsOf};
 ghost use Rattle.lists.specs.Capacity.{maxCapacity};
-ghost use Rattle.lists.specs.Scans.{termAt};
 ghost use Rattle.hints.specs.Scratch.{HasHalves, maxCost};
 ghost use Rattle.insertion.specs.Filled.{bySign};
 ghost use Rattle.settling.specs.Growth.{Growing, Grown};
 ghost use Rattle.pairing.specs.Pairs.{Paired, Turns};
-ghost use Rattle.settling.specs.Sides.{leastJoins, SettledFrom, AllSettled};
+ghost use Rattle.settling.specs.Sides.{leastJoins, AllSettled};
 use settling::counts::Counts;
 use settling::counts::Growth;
 use settling::rows::Row;

@@ -1,5 +1,4 @@
 -- The implicant pass says of each node of an accepted table whether the term is an implicant of its function.
--- an assignment that agrees with the term and has x against the sign b, where the term has no such literal
 use Prim.Native.Nat.{ℕ, _<_}
 use mathlib.Core.Path.{_≡_, refl, sym, ap, subst, _∙_}
 use mathlib.Core.Bool.{Bool, true, false, _&&_, not, cond}
@@ -10,6 +9,7 @@ use Rattle.masks.specs.Mask.{bit, put}
 use Rattle.masks.proofs.Masks.{put-same, put-other, put-lt}
 use Rattle.masks.proofs.Tests.{and-i, and-l, and-r, decide, is-true, is-false, along, same-test, either}
 use Rattle.table.specs.Node.{nodeAt, Node, constant, literal, decision, conjunction, unknown}
+use Rattle.table.proofs.Encoding.{Fits}
 use Rattle.terms.specs.Lists.{all}
 use Rattle.terms.specs.Prime.{implicant, Implicant}
 use Rattle.terms.specs.Term.{has, Agrees, IsTerm}
@@ -22,10 +22,11 @@ use Rattle.circuits.specs.Function.{signed, nodeValue, function}
 use Rattle.circuits.proofs.Accepted.{Accepted}
 use Rattle.circuits.proofs.BottomUp.{from-children}
 use Rattle.circuits.proofs.Nodes.{sides, allOf, function-is, decision-free, signed-not}
-use Rattle.circuits.proofs.Tables.{Fits, fits, children-below, node-induction}
+use Rattle.circuits.proofs.Tables.{fits, children-below, node-induction}
 use Rattle.passes.specs.Implied.{nodeImplied, impliedAt}
 use Rattle.passes.proofs.Readable.{implied-local}
 
+-- an assignment that agrees with the term and has x against the sign b, where the term has no such literal
 against : (N : ℕ) (t : Term) (x : ℕ) (b : Bool) → IsTerm N t → T (not (has t b x)) → Agrees t (put (t .positive) x (not b))
 against N t x b h n =
     by-variable t x (λ y c. bit (put (t .positive) x (not b)) y ≡ c)

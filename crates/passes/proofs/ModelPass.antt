@@ -7,36 +7,34 @@ use mathlib.Core.List.{List, [], _∷_, List·Memᴰ, List·Memᴰ·head, List·
 use native.Mathlib.Nat.{le-trans, mul-div-cancel}
 use native.Mathlib.Omega.{arith}
 use lib.Dec.{T, T-not}
-use lib.ListN.{getD}
-use lib.Bits.{or-zero-r, bitOr, or-lt}
+use lib.ListN.{getD, drop}
+use lib.Bits.{bitOr, or-lt}
 use lib.Pow.{pow-pos, pow-mono}
 use Rattle.masks.specs.Mask.{width, bit, size, disjoint}
 use Rattle.masks.specs.Numbers.{count}
 use Rattle.masks.proofs.Masks.{put-lt}
 use Rattle.masks.proofs.Numbers.{count-ext, count-not}
 use Rattle.masks.proofs.Operators.{bit-or, size-within, disjoint-at}
-use Rattle.masks.proofs.Tests.{and-l, along}
-use Rattle.table.specs.Gate.{gateNode}
+use Rattle.masks.proofs.Tests.{and-l}
 use Rattle.table.specs.Node.{nodeAt, children, Node, constant, literal, decision, conjunction, unknown}
 use Rattle.table.specs.Outcome.{accepted}
 use Rattle.table.specs.Words.{Readable, Sound}
-use Rattle.table.specs.declared.Gate.{Gate}
-use Rattle.table.specs.declared.Gate.the-variants.{Constant, Literal, Decision, Conjunction, Unknown}
 use Rattle.table.proofs.Checking.{range-e}
+use Rattle.table.proofs.Encoding.{Fits}
 use Rattle.terms.specs.Term.{has, mentions, variables, literals, isTerm, agrees, IsTerm}
 use Rattle.terms.specs.declared.Term.{Term}
-use Rattle.terms.proofs.Conjunctions.{conj}
+use Rattle.terms.proofs.Implicants.{Free}
 use Rattle.terms.proofs.Terms.{isTerm-e}
 use Rattle.circuits.specs.Check.{allDisjoint, check}
 use Rattle.circuits.specs.Function.{signed, nodeValue, function, union, nodeSupport, support}
 use Rattle.circuits.proofs.Accepted.{accepted-e, variables-le, variables-wide, Accepted}
 use Rattle.circuits.proofs.BottomUp.{branch-mem}
-use Rattle.circuits.proofs.Nodes.{sides, node-fits, function-is, not-under, decision-free, conjunction-below, conjunction-disjoint}
-use Rattle.circuits.proofs.Tables.{WellFormed, Fits, fits, children-below, support-of, node-induction}
-use Rattle.passes.specs.Models.{modelsUnder, scaled, ModelPass}
+use Rattle.circuits.proofs.Nodes.{sides, allOf, node-fits, function-is, not-under, decision-free, conjunction-below, conjunction-disjoint}
+use Rattle.circuits.proofs.Nodes.{all-not-under, rest-disjoint, drop-disjoint, drop-mem}
+use Rattle.circuits.proofs.Tables.{WellFormed, fits, children-below, support-of, node-induction}
+use Rattle.passes.specs.Models.{modelsUnder, scaled, productOf, ModelPass, Multiplied}
 use Rattle.passes.specs.Tables.{Holds}
-use Rattle.passes.proofs.Readable.{all-two}
-use Rattle.passes.proofs.Under.{models, models-ext, models-le, models-constant, models-agree, models-choice, models-conjunction}
+use Rattle.passes.proofs.Under.{models, models-le, models-constant, models-agree, models-choice, models-conjunction}
 
 module _ (N n : ℕ) (w : List ℕ) where
   pub accepted-sound : Accepted N n w → Sound N n w
@@ -79,24 +77,45 @@ unfolding modelsUnder
 scaled-is N t f wide h =
     ap (λ (k : ℕ). count (2 ^ N) (λ s. agrees N t s && f s) * 2 ^ k) (literals-are N t wide h) ∙ models-agree N t h f
 
--- the pass, by the case of the gate: F holds what is kept of the children, S the variables under them
-abbrev pub gateModels : ℕ → Term → (ℕ → ℕ) → (ℕ → ℕ) → Gate → ℕ
-gateModels N t F S (Constant b) = cond b (2 ^ N) 0
-gateModels N t F S (Literal b x) =
+-- the pass, by the kind of the node: F holds what is kept of the children, S the variables under them
+abbrev pub nodeModels : ℕ → Term → (ℕ → ℕ) → (ℕ → ℕ) → Node → ℕ
+nodeModels N t F S (constant b) = cond b (2 ^ N) 0
+nodeModels N t F S (literal b x) =
     cond (has t true x) (cond b (2 ^ N) 0)
     (cond (has t false x) (cond (not b) (2 ^ N) 0) ((cond (not b) (2 ^ N) 0 + cond b (2 ^ N) 0) / 2))
-gateModels N t F S (Decision x a b) = cond (has t true x) (F b) (cond (has t false x) (F a) ((F a + F b) / 2))
-gateModels N t F S (Conjunction a b) = F a / 2 ^ (N - size (S a)) * (F b / 2 ^ size (S a))
-gateModels N t F S Unknown = 0
+nodeModels N t F S (decision x a b) = cond (has t true x) (F b) (cond (has t false x) (F a) ((F a + F b) / 2))
+nodeModels N t F S (conjunction cs) = productOf N F S cs
+nodeModels N t F S unknown = 0
 
 module _ {N n : ℕ} {w : List ℕ} (acc : Accepted N n w) (t : Term) (isT : IsTerm N t) where
   abbrev kept : ℕ → ℕ
   kept i = models N t isT (function w i)
 
-  node-models : (i : ℕ) → i < n → (h : Gate) → nodeAt w i ≡ gateNode h → Fits N i (gateNode h)
-      → models N t isT (λ s. nodeValue s (gateNode h) (λ c. function w c s)) ≡ gateModels N t kept (support w) h
-  node-models i l (Constant b) e f = models-constant N t isT b
-  node-models i l (Literal b x) e f =
+  -- the models of a conjunction of nodes with no variable in common are the product of theirs
+  pub all-models : (cs : List ℕ) → T (allDisjoint (support w) cs) → ((c : ℕ) → List·Memᴰ c cs → c < n)
+      → models N t isT (allOf w cs) ≡ productOf N kept (support w) cs
+  all-models [] h below = models-constant N t isT true
+  all-models (c ∷ cs) h below =
+      models-conjunction N t isT (function w c) (allOf w cs) (bit (support w c))
+      (λ x k p. not-under acc c x (below c (List·Memᴰ·head refl)) p)
+      (λ x k p. others x k p)
+      ∙ ap₂ (λ (k m : ℕ). kept c / 2 ^ (N - k) * (m / 2 ^ k))
+      (sym
+      (size-within N (support w c) (variables-wide acc) (support-lt N n w (acc .well) c (below c (List·Memᴰ·head refl)))))
+      (all-models cs (rest-disjoint acc c cs h) (λ d m. below d (List·Memᴰ·tail m)))
+    where
+      others : (x : ℕ) → x < N → T (bit (support w c) x) → Free N (allOf w cs) x
+      others x k p =
+          let wide : N ≤ width = variables-wide acc in
+          ⊎-elim (λ (q : T (not (bit (support w c) x))). absurd (T-not (bit (support w c) x) q p))
+          (λ (q : T (not (bit (union (support w) cs) x))). all-not-under acc cs x (λ d m. below d (List·Memᴰ·tail m)) q)
+          (disjoint-at (support w c) (union (support w) cs)
+          (and-l (disjoint (support w c) (union (support w) cs)) (allDisjoint (support w) cs) h) x (omega arith))
+
+  node-models : (i : ℕ) → i < n → (y : Node) → nodeAt w i ≡ y → Fits N i y
+      → models N t isT (λ s. nodeValue s y (λ c. function w c s)) ≡ nodeModels N t kept (support w) y
+  node-models i l (constant b) e f = models-constant N t isT b
+  node-models i l (literal b x) e f =
       models-choice N t isT (λ c s. signed b c) x f (λ c s v k. refl)
       ∙ ap₂ (λ (p q : ℕ). cond (has t true x) q (cond (has t false x) p ((p + q) / 2))) (side false) (side true)
     where
@@ -108,40 +127,22 @@ module _ {N n : ℕ} {w : List ℕ} (acc : Accepted N n w) (t : Term) (isT : IsT
 
       side : (c : Bool) → models N t isT (λ s. signed b c) ≡ cond (cond c b (not b)) (2 ^ N) 0
       side c = models-constant N t isT (signed b c) ∙ ap (λ (v : Bool). cond v (2 ^ N) 0) (sided b c)
-  node-models i l (Decision x a b) e f =
+  node-models i l (decision x a b) e f =
       models-choice N t isT (sides w a b) x (f .0) (decision-free acc i x a b l e)
-  node-models i l (Conjunction a b) e f =
-      models-ext N t isT (λ s. nodeValue s (conjunction (a ∷ b ∷ [])) (λ c. function w c s)) (conj N (function w a) (function w b))
-      (λ s k. sym (all-two (λ c. function w c s) a b))
-      ∙ models-conjunction N t isT (function w a) (function w b) (bit (support w a))
-      (λ x k h. not-under acc a x (below a (branch-mem a b false)) h)
-      (λ x k h. not-under acc b x (below b (branch-mem a b true)) (apart x k h))
-      ∙ ap (λ (k : ℕ). kept a / 2 ^ (N - k) * (kept b / 2 ^ k))
-      (sym (size-within N (support w a) (variables-wide acc) (support-lt N n w (acc .well) a (below a (branch-mem a b false)))))
-    where
-      below : (c : ℕ) → List·Memᴰ c (a ∷ b ∷ []) → c < n
-      below = conjunction-below acc i (a ∷ b ∷ []) l e
-
-      apart : (x : ℕ) → x < N → T (bit (support w a) x) → T (not (bit (support w b) x))
-      apart x k h =
-          let wide : N ≤ width = variables-wide acc in
-          ⊎-elim (λ (p : T (not (bit (support w a) x))). absurd (T-not (bit (support w a) x) p h))
-          (λ (p : T (not (bit (bitOr (support w b) 0) x))). along (ap (λ (m : ℕ). not (bit m x)) (or-zero-r (support w b))) p)
-          (disjoint-at (support w a) (bitOr (support w b) 0)
-          (and-l (disjoint (support w a) (bitOr (support w b) 0)) (allDisjoint (support w) (b ∷ []))
-          (conjunction-disjoint acc i (a ∷ b ∷ []) l e)) x (omega arith))
-  node-models i l Unknown e f = absurd f
+  node-models i l (conjunction cs) e f =
+      all-models cs (conjunction-disjoint acc i cs l e) (conjunction-below acc i cs l e)
+  node-models i l unknown e f = absurd f
 
   -- what is kept of node i, from the arrays
-  pub models-from : (i : ℕ) → i < n → (h : Gate) → nodeAt w i ≡ gateNode h
-      → gateModels N t (λ c. scaled N (function w c) t) (support w) h ≡ scaled N (function w i) t
-  models-from i l h e =
+  pub models-from : (i : ℕ) → i < n → (y : Node) → nodeAt w i ≡ y
+      → nodeModels N t (λ c. scaled N (function w c) t) (support w) y ≡ scaled N (function w i) t
+  models-from i l y e =
       let wide : N ≤ width = variables-wide acc in
-      ap (λ (F : ℕ → ℕ). gateModels N t F (support w) h) (fun-ext (λ c. scaled-is N t (function w c) wide isT))
+      ap (λ (F : ℕ → ℕ). nodeModels N t F (support w) y) (fun-ext (λ c. scaled-is N t (function w c) wide isT))
       ∙ sym
       (scaled-is N t (function w i) wide isT
-      ∙ ap (models N t isT) (function-is acc i (gateNode h) l e)
-      ∙ node-models i l h e (node-fits acc i (gateNode h) l e))
+      ∙ ap (models N t isT) (function-is acc i y l e)
+      ∙ node-models i l y e (node-fits acc i y l e))
 
   pub scaled-le : (i : ℕ) → scaled N (function w i) t ≤ 2 ^ N
   scaled-le i =
@@ -149,19 +150,25 @@ module _ {N n : ℕ} {w : List ℕ} (acc : Accepted N n w) (t : Term) (isT : IsT
       (models-le N t isT (function w i))
 
 -- only the children's entries matter
-gate-local : (N : ℕ) (t : Term) (F F′ S S′ : ℕ → ℕ) (h : Gate)
-    → ((c : ℕ) → List·Memᴰ c (children (gateNode h)) → (F c ≡ F′ c) × (S c ≡ S′ c))
-    → gateModels N t F S h ≡ gateModels N t F′ S′ h
-gate-local N t F F′ S S′ (Constant b) e = refl
-gate-local N t F F′ S S′ (Literal b x) e = refl
-gate-local N t F F′ S S′ (Decision x a b) e =
+product-local : (N : ℕ) (F F′ S S′ : ℕ → ℕ) (cs : List ℕ) → ((c : ℕ) → List·Memᴰ c cs → (F c ≡ F′ c) × (S c ≡ S′ c))
+    → productOf N F S cs ≡ productOf N F′ S′ cs
+product-local N F F′ S S′ [] e = refl
+product-local N F F′ S S′ (c ∷ cs) e =
+    let (f, s) = e c (List·Memᴰ·head refl) in
+    ap₂ (λ (p q : ℕ). p / 2 ^ (N - size (S c)) * (q / 2 ^ size (S c))) f
+    (product-local N F F′ S S′ cs (λ d m. e d (List·Memᴰ·tail m)))
+    ∙ ap (λ (k : ℕ). F′ c / 2 ^ (N - size k) * (productOf N F′ S′ cs / 2 ^ size k)) s
+
+models-local : (N : ℕ) (t : Term) (F F′ S S′ : ℕ → ℕ) (y : Node)
+    → ((c : ℕ) → List·Memᴰ c (children y) → (F c ≡ F′ c) × (S c ≡ S′ c))
+    → nodeModels N t F S y ≡ nodeModels N t F′ S′ y
+models-local N t F F′ S S′ (constant b) e = refl
+models-local N t F F′ S S′ (literal b x) e = refl
+models-local N t F F′ S S′ (decision x a b) e =
     ap₂ (λ (p q : ℕ). cond (has t true x) q (cond (has t false x) p ((p + q) / 2))) (e a (branch-mem a b false) .0)
     (e b (branch-mem a b true) .0)
-gate-local N t F F′ S S′ (Conjunction a b) e =
-    ap₂ (λ (p q : ℕ). p / 2 ^ (N - size (S a)) * (q / 2 ^ size (S a))) (e a (branch-mem a b false) .0)
-    (e b (branch-mem a b true) .0)
-    ∙ ap (λ (k : ℕ). F′ a / 2 ^ (N - size k) * (F′ b / 2 ^ size k)) (e a (branch-mem a b false) .1)
-gate-local N t F F′ S S′ Unknown e = refl
+models-local N t F F′ S S′ (conjunction cs) e = product-local N F F′ S S′ cs e
+models-local N t F F′ S S′ unknown e = refl
 
 pub constant-le : (N : ℕ) (v : Bool) (r : ℕ) → N ≤ 40 → r ≡ cond v (2 ^ N) 0 → r ≤ 2 ^ 40
 constant-le N v r l e = subst (λ (m : ℕ). m ≤ 2 ^ 40) (sym e) (go v)
@@ -180,30 +187,51 @@ module _ {N n : ℕ} {w : List ℕ} {t : Term} {sup : List ℕ} (p : ModelPass N
   pub pass-readable : Readable n w
   pass-readable = (N, accepted-sound N n w acc)
 
+  pub own-le : (c : ℕ) → c < n → size (getD sup c 0) ≤ N
+  own-le c k =
+      let e : size (getD sup c 0) ≡ count N (bit (support w c)) =
+      ap size (p .under c k) ∙ size-within N (support w c) (variables-wide acc) (support-lt N n w (acc .well) c k) in
+      omega (arith, count-not N (bit (support w c)))
+
   module _ (i : ℕ) (l : i < n) (m : List ℕ) (held : Holds 0 (λ c. scaled N (function w c) t) i m) where
     pub entry-le : (c : ℕ) → c < i → getD m c 0 ≤ 2 ^ 40
     entry-le c k =
         subst (λ (z : ℕ). z ≤ 2 ^ 40) (sym (held c k))
         (le-trans (scaled-le acc t (isTerm-e N t (p .over)) c) (pow-mono (variables-le acc)))
 
-    pub models-array : {g h : Gate} → gateNode g ≡ nodeAt w i → g ≡ h
-        → gateModels N t (λ c. getD m c 0) (λ c. getD sup c 0) h ≡ scaled N (function w i) t
-    models-array {g} {h} e d =
-        let node : nodeAt w i ≡ gateNode h = sym e ∙ ap gateNode d in
-        gate-local N t (λ c. getD m c 0) (λ c. scaled N (function w c) t) (λ c. getD sup c 0) (support w) h
+    pub models-array : (y : Node) → nodeAt w i ≡ y
+        → nodeModels N t (λ c. getD m c 0) (λ c. getD sup c 0) y ≡ scaled N (function w i) t
+    models-array y e =
+        models-local N t (λ c. getD m c 0) (λ c. scaled N (function w c) t) (λ c. getD sup c 0) (support w) y
         (λ c k. let b : c < i =
-        children-below N n w (acc .well) i l c (subst (λ (y : Node). List·Memᴰ c (children y)) (sym node) k) in
+        children-below N n w (acc .well) i l c (subst (λ (z : Node). List·Memᴰ c (children z)) (sym e) k) in
         (held c b, p .under c (omega arith)))
-        ∙ models-from acc t (isTerm-e N t (p .over)) i l h node
+        ∙ models-from acc t (isTerm-e N t (p .over)) i l y e
 
-    pub result-le : scaled N (function w i) t ≤ 2 ^ 40
-    result-le = le-trans (scaled-le acc t (isTerm-e N t (p .over)) i) (pow-mono (variables-le acc))
+    -- the products of a conjunction's children, from each child on
+    pub multiplied : (cs : List ℕ) → nodeAt w i ≡ conjunction cs
+        → Multiplied N (λ c. getD m c 0) (λ c. getD sup c 0) cs
+    multiplied cs e =
+        record {
+          low = λ k. from-low (drop k cs) (drop-disjoint acc k cs (conjunction-disjoint acc i cs l e)) (λ c q. below c (drop-mem k cs c q));
+          own = λ k c rest q.
+              let b : c < i = below c (drop-mem k cs c (subst (List·Memᴰ c) (sym q) (List·Memᴰ·head refl))) in
+              own-le c (omega arith);
+        }
+      where
+        below : (c : ℕ) → List·Memᴰ c cs → c < i
+        below c q = node-fits acc i (conjunction cs) l e .2 c q
 
-  pub own-le : (c : ℕ) → c < n → size (getD sup c 0) ≤ N
-  own-le c k =
-      let e : size (getD sup c 0) ≡ count N (bit (support w c)) =
-      ap size (p .under c k) ∙ size-within N (support w c) (variables-wide acc) (support-lt N n w (acc .well) c k) in
-      omega (arith, count-not N (bit (support w c)))
+        from-low : (cs : List ℕ) → T (allDisjoint (support w) cs) → ((c : ℕ) → List·Memᴰ c cs → c < i)
+            → productOf N (λ c. getD m c 0) (λ c. getD sup c 0) cs ≤ 2 ^ 40
+        from-low cs h b =
+            let isT : IsTerm N t = isTerm-e N t (p .over) in
+            let same : productOf N (λ c. getD m c 0) (λ c. getD sup c 0) cs ≡ models N t isT (allOf w cs) =
+            product-local N (λ c. getD m c 0) (λ c. models N t isT (function w c)) (λ c. getD sup c 0) (support w) cs
+            (λ c q. let k : c < i = b c q in
+            (held c k ∙ scaled-is N t (function w c) (variables-wide acc) isT, p .under c (omega arith)))
+            ∙ sym (all-models acc t isT cs h (λ c q. let k : c < i = b c q in omega arith)) in
+            subst (λ (z : ℕ). z ≤ 2 ^ 40) (sym same) (le-trans (models-le N t isT (allOf w cs)) (pow-mono (variables-le acc)))
 
 -- what an accepted table gives
 module _ (N n : ℕ) (w : List ℕ) (e : check N n w ≡ accepted) where

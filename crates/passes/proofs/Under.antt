@@ -131,10 +131,6 @@ module _ (N : ℕ) (t : Term) (w : IsTerm N t) where
   pub models : (ℕ → Bool) → ℕ
   models f = count (2 ^ N) (λ s. f (under t s))
 
-  pub models-ext : (f g : ℕ → Bool) → ((s : ℕ) → s < 2 ^ N → f s ≡ g s) → models f ≡ models g
-  unfolding models
-  models-ext f g e = count-ext (2 ^ N) (λ s. f (under t s)) (λ s. g (under t s)) (λ s l. e (under t s) (under-lt s l))
-
   pub models-le : (f : ℕ → Bool) → models f ≤ 2 ^ N
   unfolding models
   models-le f =

@@ -1,7 +1,7 @@
 // Passes over a table: what is computed of each node from its children's, in one loop, the lowest node first.
 ghost use mathlib.Core.Path.{_≡_};
 ghost use mathlib.Core.Bool.{true, false, _&&_, cond};
-ghost use Prim.Native.Nat.{pred, _+_, _-_, _*_, _/_, _^_, _≤_, _<_};
+ghost use Prim.Native.Nat.{pred, _+_, _-_, _/_, _^_, _≤_, _<_};
 ghost use lib.Dec.{T};
 ghost use Rattle.table.specs.Outcome.{accepted};
 ghost use Rattle.table.specs.Words.{Readable};
@@ -11,8 +11,15 @@ ghost use Rattle.circuits.specs.Function.{function, support};
 ghost use Rattle.passes.specs.Implied.{impliedAt};
 ghost use Rattle.passes.specs.Models.{modelsUnder, scaled, ModelPass};
 ghost use Rattle.passes.specs.Tables.{Holds};
-use table::Gate;
+
+mod children;
+
+use children::all_of;
+use children::product_of;
+use children::union_of;
 use table::MAX_NODES;
+use table::gates::Gate;
+use table::gates::decode_at;
 use terms::Term;
 
 // The variables under node i, from those under its children.
@@ -20,19 +27,23 @@ fn support_at(words: &[u32], n: usize, i: usize, supports: &[u64; MAX_NODES as u
     requires { ⌜ Readable n (now words) × (i < n) × Holds 0 (support (now words)) i (now supports) ⌝ }
     ensures { λ r. ⌜ r ≡ support (now (words .entry)) i ⌝ }
 {
-    let g = table::gate_at(words, i);
+    let node = decode_at(words, i);
+    let g = node.gate;
     match g {
         Gate::Constant(_) => 0,
         Gate::Literal(_, x) => masks::with_bit(0, x),
         Gate::Decision(x, a, b) => {
             masks::with_bit(supports[a as usize] | supports[b as usize], x)
         }
-        Gate::Conjunction(a, b) => supports[a as usize] | supports[b as usize],
+        Gate::Conjunction => {
+            let children = node.children;
+            union_of(children, supports)
+        }
         Gate::Unknown => 0,
     }
 }
 
-// The variables under each of the first n nodes. Cost: a constant number of steps a node.
+// The variables under each of the first n nodes. Cost: a constant number of steps a child.
 pub fn supports(words: &[u32], n: usize) -> [u64; MAX_NODES as usize]
     requires { ⌜ Readable n (now words) ⌝ }
     ensures { λ r. ⌜ Holds 0 (support (now (words .entry))) n r ⌝ }
@@ -52,7 +63,8 @@ fn value_at(words: &[u32], n: usize, i: usize, s: u64, values: &[bool; MAX_NODES
     requires { ⌜ Readable n (now words) × (i < n) × Holds false (λ c. function (now words) c s) i (now values) ⌝ }
     ensures { λ r. ⌜ r ≡ function (now (words .entry)) i s ⌝ }
 {
-    let g = table::gate_at(words, i);
+    let node = decode_at(words, i);
+    let g = node.gate;
     match g {
         Gate::Constant(b) => b,
         Gate::Literal(sign, x) => {
@@ -69,12 +81,15 @@ fn value_at(words: &[u32], n: usize, i: usize, s: u64, values: &[bool; MAX_NODES
                 values[a as usize]
             }
         }
-        Gate::Conjunction(a, b) => values[a as usize] & values[b as usize],
+        Gate::Conjunction => {
+            let children = node.children;
+            all_of(children, values)
+        }
         Gate::Unknown => false,
     }
 }
 
-// The circuit's value at the assignment s. Cost: a constant number of steps a node.
+// The circuit's value at the assignment s. Cost: a constant number of steps a child.
 pub fn value(words: &[u32], n: usize, s: u64) -> bool
     requires { ⌜ Readable n (now words) ⌝ }
     ensures { λ r. ⌜ r ≡ function (now (words .entry)) (pred n) s ⌝ }
@@ -114,17 +129,21 @@ fn implied_at(
     requires { ⌜ Readable n (now words) × (i < n) × Holds false (impliedAt (now words) t) i (now implied) ⌝ }
     ensures { λ r. ⌜ r ≡ impliedAt (now (words .entry)) t i ⌝ }
 {
-    let g = table::gate_at(words, i);
+    let node = decode_at(words, i);
+    let g = node.gate;
     match g {
         Gate::Constant(b) => b,
         Gate::Literal(sign, x) => terms::has_literal(t, sign, x),
         Gate::Decision(x, a, b) => both_sides(t, x, implied[a as usize], implied[b as usize]),
-        Gate::Conjunction(a, b) => implied[a as usize] & implied[b as usize],
+        Gate::Conjunction => {
+            let children = node.children;
+            all_of(children, implied)
+        }
         Gate::Unknown => false,
     }
 }
 
-// Whether the term is an implicant of the circuit. Cost: a constant number of steps a node.
+// Whether the term is an implicant of the circuit. Cost: a constant number of steps a child.
 pub fn implied(words: &[u32], n: usize, t: Term) -> bool
     requires { ⌜ Readable n (now words) ⌝ }
     ensures { λ r. ⌜ r ≡ impliedAt (now (words .entry)) t (pred n) ⌝ }
@@ -164,14 +183,6 @@ fn average(t: Term, x: u32, low: u64, high: u64) -> u64
     (low + high) / 2
 }
 
-// Of a conjunction of a and b: a's models over its own variables, times b's over the others.
-fn product(variables: u32, own: u32, a: u64, b: u64) -> u64
-    requires { ⌜ (variables ≤ 40) × (own ≤ variables) × (a / 2 ^ (variables - own) * (b / 2 ^ own) ≤ 2 ^ 40) ⌝ }
-    ensures { λ r. ⌜ r ≡ a / 2 ^ (variables - own) * (b / 2 ^ own) ⌝ }
-{
-    (a >> (variables - own)) * (b >> own)
-}
-
 // The models of node i under the term, doubled for each literal, from those of its children.
 fn models_at(
     words: &[u32],
@@ -186,7 +197,8 @@ fn models_at(
     requires { ⌜ Holds 0 (λ c. scaled variables (function (now words) c) t) i (now models) ⌝ }
     ensures { λ r. ⌜ r ≡ scaled variables (function (now (words .entry)) i) t ⌝ }
 {
-    let g = table::gate_at(words, i);
+    let node = decode_at(words, i);
+    let g = node.gate;
     match g {
         Gate::Constant(b) => constant_models(variables, b),
         Gate::Literal(sign, x) => {
@@ -194,15 +206,15 @@ fn models_at(
             average(t, x, low, constant_models(variables, sign))
         }
         Gate::Decision(x, a, b) => average(t, x, models[a as usize], models[b as usize]),
-        Gate::Conjunction(a, b) => {
-            let own = masks::count_bits(supports[a as usize]);
-            product(variables, own, models[a as usize], models[b as usize])
+        Gate::Conjunction => {
+            let children = node.children;
+            product_of(children, variables, supports, models)
         }
         Gate::Unknown => 0,
     }
 }
 
-// The models of an accepted circuit that agree with the term. Cost: a constant number of steps a node.
+// The models of an accepted circuit that agree with the term. Cost: a constant number of steps a child.
 pub fn models_under(words: &[u32], variables: u32, n: usize, t: Term) -> u64
     requires { ⌜ (check variables n (now words) ≡ accepted) × T (isTerm variables t) ⌝ }
     ensures { λ r. ⌜ r ≡ modelsUnder variables (function (now (words .entry)) (pred n)) t ⌝ }

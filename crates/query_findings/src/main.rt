@@ -9,8 +9,8 @@ use queries::Evaluation;
 use queries::Reduction;
 use queries::Tested;
 use table::MAX_NODES;
-use table::NODE_WORDS;
 use table::Refusal;
+use table::layout::NODE_WORDS;
 use terms::Term;
 use text::answer::Reading;
 use text::limits::MAX_BYTES;
@@ -128,9 +128,34 @@ fn larger_circuits() {
     );
 }
 
+// Conjunctions of eight and of three; 24 between the first child and the last, and at one node in two places; 25 at the third child.
+fn wide_conjunctions() {
+    ask(
+        b"(circuit 8)\n(both (yes 0) (no 1) (yes 2) (no 3) (yes 4) (no 5) (yes 6) (no 7))\n",
+        85,
+        85,
+        170,
+    );
+    ask(
+        b"(circuit 6)\n(both (pick 0 (yes 1) (true)) (pick 2 (yes 3) (true)) (pick 4 (yes 5) (true)))\n",
+        63,
+        21,
+        0,
+    );
+    ask(b"(circuit 2)\n(both (yes 0) (yes 1) (no 0))\n", 0, 0, 0);
+    ask(
+        b"(circuit 1)\n(yes 0)\n(both (line 0) (true) (line 0))\n",
+        0,
+        0,
+        0,
+    );
+    ask(b"(circuit 2)\n(both (yes 0) (yes 1) (false))\n", 0, 0, 0);
+}
+
 fn main() {
     smallest_circuits();
     larger_circuits();
+    wide_conjunctions();
     let mut text = [0u8; MAX_BYTES + 1];
     let length = io::read_full(STDIN_FILENO, &mut text);
     ask(&text[..length], 0, 0, 0);

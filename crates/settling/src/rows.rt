@@ -8,7 +8,7 @@ ghost use Rattle.terms.specs.Joins.{joins};
 ghost use Rattle.terms.specs.Term.{conflict, termsOf};
 ghost use Rattle.lists.specs.Capacity.{maxCapacity};
 ghost use Rattle.lists.specs.Scans.{termAt};
-ghost use Rattle.hints.specs.Scratch.{maxWords, wordsFor, HasColumns};
+ghost use Rattle.hints.specs.Scratch.{maxWords, bitWords, HasColumns};
 ghost use Rattle.insertion.specs.Filled.{bySign, held};
 ghost use Rattle.settling.specs.Growth.{Growing, Grown};
 ghost use Rattle.settling.specs.Sides.{leastJoins, Covered, Settled, SettledFrom};
@@ -35,7 +35,7 @@ struct Tried {
 
 // Makes the columns of b, unless they are made.
 fn make_columns(columns: &mut [u64], bp: &[u64], bn: &[u64], made: bool)
-    requires { ⌜ HasColumns (wordsFor (length (now bp))) (now columns) × (length (now bn) ≡ length (now bp))
+    requires { ⌜ HasColumns (bitWords (length (now bp))) (now columns) × (length (now bn) ≡ length (now bp))
         × (length (now bp) ≤ maxCapacity) ⌝ }
 {
     if !made {
@@ -56,7 +56,7 @@ fn try_kept(
     pair: Pair,
 ) -> Tried
     requires { ⌜ (length (now kept) ≤ 2 * maxCapacity) × (2 * (pair .kept) ≤ length (now kept))
-        × HasColumns (wordsFor (length (now bp))) (now columns) × (length (now left) ≡ maxWords)
+        × HasColumns (bitWords (length (now bp))) (now columns) × (length (now left) ≡ maxWords)
         × (length (now bn) ≡ length (now bp)) × (length (now bp) ≤ maxCapacity) × (pair .at < length (now bp)) ⌝ }
     ensures { λ r. ⌜ Tries (now (kept .entry)) (pair .kept) t (termAt (now (bp .entry)) (now (bn .entry)) (pair .at)) r ⌝ }
 {
@@ -202,7 +202,7 @@ fn join_row(
     row: Row,
 ) -> Growth
     requires { ⌜ Growing (now ap) (now an) (now bp) (now bn) (bySign (now positives) (now negatives)) (now kept) (row .counts) ⌝ }
-    requires { ⌜ (row .at < length (now ap)) × HasColumns (wordsFor (length (now bp))) (now columns) ⌝ }
+    requires { ⌜ (row .at < length (now ap)) × HasColumns (bitWords (length (now bp))) (now columns) ⌝ }
     ensures { λ r. ⌜ Grown (leastJoins (termsOf (now (ap .entry)) (now (an .entry))) (termsOf (now (bp .entry)) (now (bn .entry))))
         (leastJoins (termsOf (now (ap .entry)) (now (an .entry))) (termsOf (now (bp .entry)) (now (bn .entry))))
         (λ l. SettledFrom (leastJoins (termsOf (now (ap .entry)) (now (an .entry))) (termsOf (now (bp .entry)) (now (bn .entry)))) l
@@ -214,7 +214,7 @@ fn join_row(
     let made = row.made;
     let start = row.counts;
     let t = lists::term_at(ap, an, at);
-    let words = hints::words_for(bp.len());
+    let words = hints::bit_words(bp.len());
     let mut left = [0u64; hints::MAX_WORDS];
     let mut counts = Counts {
         listed: start.listed,
@@ -280,7 +280,7 @@ pub fn settle_row(
     row: Row,
 ) -> Growth
     requires { ⌜ Growing (now ap) (now an) (now bp) (now bn) (bySign (now positives) (now negatives)) (now kept) (row .counts) ⌝ }
-    requires { ⌜ (row .at < length (now ap)) × HasColumns (wordsFor (length (now bp))) (now columns) ⌝ }
+    requires { ⌜ (row .at < length (now ap)) × HasColumns (bitWords (length (now bp))) (now columns) ⌝ }
     ensures { λ r. ⌜ Grown (leastJoins (termsOf (now (ap .entry)) (now (an .entry))) (termsOf (now (bp .entry)) (now (bn .entry))))
         (leastJoins (termsOf (now (ap .entry)) (now (an .entry))) (termsOf (now (bp .entry)) (now (bn .entry))))
         (λ l. SettledFrom (leastJoins (termsOf (now (ap .entry)) (now (an .entry))) (termsOf (now (bp .entry)) (now (bn .entry)))) l

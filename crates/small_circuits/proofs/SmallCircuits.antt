@@ -1,10 +1,11 @@
--- P1 to P12, computed from the definitions.
+-- The small circuits, computed from the definitions.
 use lib.Dec.{T}
 use Rattle.masks.specs.Mask.{bit, put, size, disjoint}
 use Rattle.masks.specs.Numbers.{every, some, count, least, below}
+use Rattle.table.specs.Layout.{wordsAt, putWords}
 use Rattle.table.specs.Node.{nodeAt}
-use Rattle.table.specs.Words.{malformed}
-use Rattle.text.specs.Read.{digitAt, digitsAt, numberAt, matchAt, rangedAt, tailAt, headAt, closeAt, argsWith, formAt, argsAt, linesAt}
+use Rattle.table.specs.Words.{childrenFit, malformed}
+use Rattle.text.specs.Read.{digitAt, digitsAt, numberAt, matchAt, rangedAt, tailAt, headAt, closeAt, endAt, restWith, formAt, linesAt}
 use Rattle.text.specs.Read.{headerAt, readText, wordAt}
 use Rattle.terms.specs.Lists.{all, sort}
 use Rattle.terms.specs.Order.{key, before}
@@ -17,7 +18,7 @@ use Rattle.listing.specs.Listing.{exceeds, listTable}
 use Rattle.small_circuits.specs.Small.{smallHolds, small}
 
 pub small-holds : T (all smallHolds small)
-unfolding small modelCount listTable exceeds check malformed parentless undecomposable unreduced support nodeAt bottomUp ofNode function
-    primes prime candidates implicant agrees isTerm key before sort bit put size disjoint every some count least below
-    readText headerAt linesAt formAt argsAt argsWith closeAt headAt tailAt wordAt rangedAt matchAt numberAt digitsAt digitAt
+unfolding small modelCount listTable exceeds check malformed parentless undecomposable unreduced support nodeAt wordsAt putWords
+    childrenFit bottomUp ofNode function primes prime candidates implicant agrees isTerm key before sort bit put size disjoint every some count least below
+    readText headerAt linesAt formAt restWith endAt closeAt headAt tailAt wordAt rangedAt matchAt numberAt digitsAt digitAt
 small-holds = tt

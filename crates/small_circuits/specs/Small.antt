@@ -1,8 +1,9 @@
--- The small circuits P1 to P12 of the scope, from their texts, as one list of what is known of each.
+-- The small circuits P1 to P12 of the scope, and two conjunctions of three, from their texts, as one list of what is known of each.
 use Prim.Native.String.{String}
 use Prim.Native.Nat.{ℕ}
 use mathlib.Core.Bool.{Bool, true, false}
 use mathlib.Core.List.{List, [], _∷_}
+use Rattle.table.specs.Layout.{wordsFor}
 use Rattle.table.specs.Outcome.{Outcome, answered, refused}
 use Rattle.text.specs.Ascii.{ascii}
 use Rattle.text.specs.Read.{readText, ReadOut}
@@ -20,7 +21,7 @@ answerHolds w k (answered v) = holds (v .0) (v .1) w k
 answerHolds w k (refused e p) = false
 
 abbrev pub smallHolds : SmallCircuit → Bool
-smallHolds c = let r : ReadOut = readText (c .text) 40 in answerHolds (r .words) (c .known) (r .answer)
+smallHolds c = let r : ReadOut = readText (c .text) (wordsFor 10) in answerHolds (r .words) (c .known) (r .answer)
 
 abbrev circuit : String → Known → SmallCircuit
 circuit s k = record { text = ascii s; known = k }
@@ -46,4 +47,7 @@ small =
     (accepts (term 1 4 ∷ term 4 1 ∷ term 0 9 ∷ term 0 12 ∷ []) 10 [])
     ∷ circuit "(circuit 4)\n(pick 1 (pick 0 (pick 3 (true) (yes 2)) (no 2)) (both (no 2) (no 3)))\n"
     (accepts (term 0 12 ∷ term 1 6 ∷ term 4 3 ∷ term 0 11 ∷ []) 7 [])
+    -- conjunctions of three: with no variable in common, and with one in the first and the last
+    ∷ circuit "(circuit 4)\n(both (no 1) (pick 0 (yes 2) (true)) (yes 3))\n" (accepts (term 9 2 ∷ term 12 2 ∷ []) 3 ((1, false) ∷ []))
+    ∷ circuit "(circuit 2)\n(both (yes 0) (no 1) (yes 0))\n" (fault 24 3)
     ∷ []

@@ -1,5 +1,5 @@
 -- Laws of 21 and of rules for nodes in their order.
-use Prim.Native.Nat.{ℕ, _*_, _<_, _≤_}
+use Prim.Native.Nat.{ℕ, _<_, _≤_}
 use mathlib.Core.Path.{_≡_, refl, sym, ap, ap₂, subst}
 use mathlib.Core.Bool.{Bool, true, false, not, cond}
 use mathlib.Core.List.{List, [], _∷_, List·Memᴰ, List·Memᴰ·head, List·Memᴰ·not-nil, List·Memᴰ·cases-cons}
@@ -11,17 +11,18 @@ use borrow.Author.Tests.{lt-ltb, le-ltb}
 use Rattle.masks.specs.Numbers.{least}
 use Rattle.masks.proofs.Numbers.{least-none}
 use Rattle.masks.proofs.Tests.{and-l, and-r, along}
-use Rattle.table.specs.Node.{nodeWords, maxNodes, maxVariables}
+use Rattle.table.specs.Layout.{wordsFor}
+use Rattle.table.specs.Node.{maxNodes, maxVariables}
 use Rattle.table.specs.Outcome.{accepted, refused}
 use Rattle.table.specs.Words.{inRange, malformed, firstFault, checkBy, checkWords, Sound}
 
 -- what 21 tests
-pub range-e : (N n : ℕ) (w : List ℕ) → T (inRange N n w) → (N ≤ maxVariables) × (1 ≤ n) × (n ≤ maxNodes) × (nodeWords * n ≤ length w)
+pub range-e : (N n : ℕ) (w : List ℕ) → T (inRange N n w) → (N ≤ maxVariables) × (1 ≤ n) × (n ≤ maxNodes) × (wordsFor n ≤ length w)
 range-e N n w h = (
   leb→le N maxVariables (search (and-l, and-r)),
   leb→le 1 n (search (and-l, and-r)),
   leb→le n maxNodes (search (and-l, and-r)),
-  leb→le (nodeWords * n) (length w) (search (and-l, and-r)),
+  leb→le (wordsFor n) (length w) (search (and-l, and-r)),
 )
 
 -- ---- the rules in turn

@@ -1,3 +1,6 @@
-pub mod Gates
+pub mod NodePlaces
+pub mod Decoding
+pub mod Encoding
+pub mod ChildLists
 pub mod Outcomes
 pub mod Checking

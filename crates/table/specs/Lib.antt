@@ -1,3 +1,4 @@
+pub mod Layout
 pub mod Node
 pub mod Gate
 pub mod Outcome

@@ -1,8 +1,11 @@
--- The node table: four words a node, kind, fact, a and b.
-use Prim.Native.Nat.{ℕ, zero, suc, _+_, _*_}
+-- The nodes of a table, and the words that stand for them.
+use Prim.Native.Nat.{ℕ, zero, suc, _-_}
 use mathlib.Core.Bool.{Bool, true, false}
-use mathlib.Core.List.{List, [], _∷_}
-use lib.ListN.{getD}
+use mathlib.Core.List.{List, [], _∷_, _++_}
+use lib.ListN.{length, getD, take, replicate}
+use Rattle.table.specs.Layout.{maxChildren, wordsAt}
+use Rattle.table.specs.declared.layout.Children.{Children}
+use Rattle.table.specs.declared.layout.NodeWords.{NodeWords}
 
 -- the kinds by their numbers: 0 `false`, 1 `true`, 2 `yes`, 3 `no`, 4 `pick`, 5 `both`
 pub data Kind : Type 0 where
@@ -52,18 +55,6 @@ pub data Node : Type 0 where
   -- a kind above 5
   unknown : Node
 
--- the node that a kind and the words fact, a and b stand for
-abbrev pub node : Kind → ℕ → ℕ → ℕ → Node
-node (constantKind v) x a b = constant v
-node (literalKind v) x a b = literal v x
-node decisionKind x a b = decision x a b
-node conjunctionKind x a b = conjunction (a ∷ b ∷ [])
-node unknownKind x a b = unknown
-
--- how many words a node has
-abbrev pub nodeWords : ℕ
-nodeWords = 4
-
 -- how many nodes a table has at most, and over how many variables
 abbrev pub maxNodes : ℕ
 maxNodes = 1024
@@ -71,13 +62,20 @@ maxNodes = 1024
 abbrev pub maxVariables : ℕ
 maxVariables = 40
 
--- word j of node i
-abbrev pub word : List ℕ → ℕ → ℕ → ℕ
-word w i j = getD w (nodeWords * i + j) 0
+-- the node that its words stand for: child words past the number of children are unused
+abbrev pub decode : Kind → ℕ → Children → Node
+decode (constantKind v) x cs = constant v
+decode (literalKind v) x cs = literal v x
+decode decisionKind x cs = decision x (getD (cs .nodes) 0 0) (getD (cs .nodes) 1 0)
+decode conjunctionKind x cs = conjunction (take (cs .count) (cs .nodes))
+decode unknownKind x cs = unknown
+
+abbrev pub decodeWords : NodeWords → Node
+decodeWords y = decode (kind (y .kind)) (y .variable) (y .children)
 
 -- node i of the table
 unfoldable pub nodeAt : List ℕ → ℕ → Node
-nodeAt w i = node (kind (word w i 0)) (word w i 1) (word w i 2) (word w i 3)
+nodeAt w i = decodeWords (wordsAt w i)
 
 abbrev pub children : Node → List ℕ
 children (constant v) = []
@@ -85,3 +83,21 @@ children (literal v x) = []
 children (decision x a b) = a ∷ b ∷ []
 children (conjunction cs) = cs
 children unknown = []
+
+-- ---- the words that stand for a node
+-- children, with 0 in the unused words
+abbrev pub childrenWords : List ℕ → Children
+childrenWords cs = record { count = length cs; nodes = cs ++ replicate (maxChildren - length cs) 0 }
+
+abbrev pub encoded : ℕ → ℕ → List ℕ → NodeWords
+encoded k x cs = record { kind = k; variable = x; children = childrenWords cs }
+
+-- a kind above 5 has no number of its own; none is ever encoded
+abbrev pub encode : Node → NodeWords
+encode (constant false) = encoded falseNumber 0 []
+encode (constant true) = encoded trueNumber 0 []
+encode (literal true x) = encoded positiveNumber x []
+encode (literal false x) = encoded negativeNumber x []
+encode (decision x a b) = encoded decisionNumber x (a ∷ b ∷ [])
+encode (conjunction cs) = encoded conjunctionNumber 0 cs
+encode unknown = encoded falseNumber 0 []

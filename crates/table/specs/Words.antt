@@ -1,28 +1,24 @@
 -- The numbers and words of a table: 21 and 22.
-use Prim.Native.Nat.{ℕ, _*_, _<_, _≤_}
+use Prim.Native.Nat.{ℕ, _<_, _≤_}
 use mathlib.Core.Bool.{Bool, true, false, _&&_, not, cond}
 use mathlib.Core.List.{List, [], _∷_}
 use lib.Dec.{T, eqb, ltb, leb}
-use lib.ListN.{length}
-use Rattle.masks.specs.Numbers.{least}
-use Rattle.table.specs.Node.{kind, nodeWords, word, maxNodes, maxVariables, Kind, constantKind, literalKind, decisionKind}
-use Rattle.table.specs.Node.{conjunctionKind, unknownKind}
+use lib.ListN.{length, getD}
+use Rattle.masks.specs.Numbers.{every, least}
+use Rattle.table.specs.Layout.{maxChildren, wordsFor, wordsAt}
+use Rattle.table.specs.Node.{kind, maxNodes, maxVariables, Kind, constantKind, literalKind, decisionKind, conjunctionKind}
+use Rattle.table.specs.Node.{unknownKind}
 use Rattle.table.specs.Outcome.{accepted, Outcome, refused}
+use Rattle.table.specs.declared.layout.Children.{Children}
+use Rattle.table.specs.declared.layout.NodeWords.{NodeWords}
 
--- a kind that uses the word fact, and one that uses the words a and b
+-- a kind that uses the word of the variable ("fact")
 abbrev pub usesVariable : Kind → Bool
 usesVariable (constantKind v) = false
 usesVariable (literalKind v) = true
 usesVariable decisionKind = true
 usesVariable conjunctionKind = false
 usesVariable unknownKind = false
-
-abbrev pub usesChildren : Kind → Bool
-usesChildren (constantKind v) = false
-usesChildren (literalKind v) = false
-usesChildren decisionKind = true
-usesChildren conjunctionKind = true
-usesChildren unknownKind = false
 
 abbrev pub isKnown : Kind → Bool
 isKnown (constantKind v) = true
@@ -31,14 +27,28 @@ isKnown decisionKind = true
 isKnown conjunctionKind = true
 isKnown unknownKind = false
 
+-- the numbers of children that a kind allows: 2 for `pick`, 2 to 8 for `both`, 0 for the others
+abbrev pub countFits : Kind → ℕ → Bool
+countFits (constantKind v) c = eqb c 0
+countFits (literalKind v) c = eqb c 0
+countFits decisionKind c = eqb c 2
+countFits conjunctionKind c = leb 2 c && leb c maxChildren
+countFits unknownKind c = eqb c 0
+
 -- a used word is below its bound, an unused word is 0
 abbrev pub wordFits : Bool → ℕ → ℕ → Bool
 wordFits used bound v = cond used (ltb v bound) (eqb v 0)
 
+-- the children of node i: as many words as the number says are used
+unfoldable pub childrenFit : ℕ → Children → Bool
+childrenFit i cs = every maxChildren (λ j. wordFits (ltb j (cs .count)) i (getD (cs .nodes) j 0))
+
 -- node i's words, by its kind
-abbrev pub wellFormed : ℕ → ℕ → Kind → ℕ → ℕ → ℕ → Bool
-wellFormed N i k x a b =
-    isKnown k && wordFits (usesVariable k) N x && wordFits (usesChildren k) i a && wordFits (usesChildren k) i b
+abbrev pub fitsKind : ℕ → ℕ → Kind → ℕ → Children → Bool
+fitsKind N i k x cs = isKnown k && wordFits (usesVariable k) N x && countFits k (cs .count) && childrenFit i cs
+
+abbrev pub wellFormed : ℕ → ℕ → NodeWords → Bool
+wellFormed N i y = fitsKind N i (kind (y .kind)) (y .variable) (y .children)
 
 -- a number of variables that is allowed
 abbrev pub variablesFit : ℕ → Bool
@@ -46,11 +56,12 @@ variablesFit N = leb 1 N && leb N maxVariables
 
 -- 21: N or n outside its range, or too few words
 abbrev pub inRange : ℕ → ℕ → List ℕ → Bool
-inRange N n w = variablesFit N && leb 1 n && leb n maxNodes && leb (nodeWords * n) (length w)
+inRange N n w = variablesFit N && leb 1 n && leb n maxNodes && leb (wordsFor n) (length w)
 
--- 22: a kind above 5, a used fact not below N, a used child not below its parent, or an unused word not 0
+-- 22: a kind above 5, a used fact not below N, a number of children that the kind does not allow, a used child not below its
+-- parent, or an unused word not 0
 unfoldable pub malformed : ℕ → List ℕ → ℕ → Bool
-malformed N w i = not (wellFormed N i (kind (word w i 0)) (word w i 1) (word w i 2) (word w i 3))
+malformed N w i = not (wellFormed N i (wordsAt w i))
 
 -- the first rule that some node below n breaks, with its lowest such node
 abbrev pub firstFault : ℕ → List (ℕ × (ℕ → Bool)) → Outcome (Unit {0})
@@ -73,7 +84,7 @@ pub record Sound (N n : ℕ) (w : List ℕ) : Type 0 where
   pub narrow : N ≤ maxVariables
   pub first : 1 ≤ n
   pub nodes : n ≤ maxNodes
-  pub words : nodeWords * n ≤ length w
+  pub words : wordsFor n ≤ length w
   pub well : (i : ℕ) → i < n → T (not (malformed N w i))
 
 -- it is one over some number of variables

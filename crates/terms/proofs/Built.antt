@@ -15,7 +15,7 @@ use Rattle.masks.proofs.Numbers.{count-ext, count-less}
 use Rattle.masks.proofs.Operators.{bit-or, disjoint-e, disjoint-i}
 use Rattle.masks.proofs.Tests.{and-i, and-l, and-r, or-cases, not-not, decide}
 use Rattle.terms.specs.Joins.{joinsWith, holdsOne, extended, joins, holdsShorter, leastOf, decisionTerms}
-use Rattle.terms.specs.Lists.{any, keep}
+use Rattle.terms.specs.Lists.{keep}
 use Rattle.terms.specs.Prime.{reduce, Implicant, Prime, Lists}
 use Rattle.terms.specs.Term.{has, mentions, variables, literals, without, extend, join, inside, conflict, IsTerm}
 use Rattle.terms.specs.declared.Term.{Term}

@@ -13,7 +13,7 @@ use Rattle.masks.proofs.Operators.{bit-or}
 use Rattle.masks.proofs.Tests.{or-r, or-cases, along}
 use Rattle.terms.specs.Lists.{keep, sort, Rising}
 use Rattle.terms.specs.Order.{key, before}
-use Rattle.terms.specs.Prime.{prime, pairs, candidates, primes, Prime, Lists}
+use Rattle.terms.specs.Prime.{prime, pairs, candidates, primes, Lists}
 use Rattle.terms.specs.Term.{term, has, variables, IsTerm}
 use Rattle.terms.specs.declared.Term.{Term}
 use Rattle.terms.proofs.Implicants.{prime-e, prime-i}

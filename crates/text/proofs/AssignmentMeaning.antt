@@ -28,8 +28,8 @@ use Rattle.text.specs.declared.head.Matched.the-variants.{Past, Differs}
 use Rattle.text.specs.declared.number.Numeral.{Numeral}
 use Rattle.text.specs.declared.number.Numeral.the-variants.{Value, Missing}
 use Rattle.text.proofs.AssignmentLines.{AnswerIs, closeText, members-flat, assignment-flat, readLine, line-read, line-local}
-use Rattle.text.proofs.Clean.{append-none, none-append, unless-none, none-unless, Numbered, numbered-append, numbered-unless}
-use Rattle.text.proofs.Clean.{numbered-first}
+use Rattle.text.proofs.Clean.{append-none, none-append, unless-none, none-unless}
+use Rattle.text.proofs.FaultNumbers.{Numbered, numbered-append, numbered-unless, numbered-first}
 use Rattle.text.proofs.Grammar.{IsNumber}
 use Rattle.text.proofs.Readers.{upTo, Reader}
 use Rattle.text.proofs.Refusals.{bytes-append, worded}

@@ -1,20 +1,23 @@
 -- Bytes that are a number, a form, lines or a text of the grammar: some tree prints to them.
-use Prim.Native.Nat.{ℕ, _+_, _*_, _/_, _%_, _<_}
-use mathlib.Core.Path.{_≡_, refl, sym, ap, ap₂, _∙_}
-use mathlib.Core.Bool.{Bool, cond}
+use Prim.Native.Nat.{ℕ, zero, suc, _+_, _*_, _/_, _%_, _<_, _≤_}
+use mathlib.Core.Path.{_≡_, refl, sym, ap, ap₂, subst, _∙_}
+use mathlib.Core.Bool.{Bool, true, cond}
 use mathlib.Core.Logic.{_≢_}
 use mathlib.Core.List.{List, [], _∷_, _++_, cons≢nil, append-nil, append-assoc}
 use native.Mathlib.Omega.{arith}
 use Rattle.text.specs.Ascii.{ascii}
 use Rattle.text.specs.Meaning.{IsText}
-use Rattle.text.specs.Syntax.{decimal, printForm, printLines, Below, GrammaticalLines, Tree, Form, constantForm, literalForm}
-use Rattle.text.specs.Syntax.{decisionForm, conjunctionForm, lineForm}
+use Rattle.text.specs.Syntax.{decimal, count, leastForms, mostForms, printOperator, printForm, printLines, OperatorFits}
+use Rattle.text.specs.Syntax.{FormFits, FormsFit, GrammaticalLines, Tree, Form, Forms, constantForm, literalForm, innerForm, lineForm}
+use Rattle.text.specs.Syntax.{none, more}
 use Rattle.text.specs.Words.{spelling}
+use Rattle.text.specs.declared.head.Operator.{Operator}
+use Rattle.text.specs.declared.head.Operator.the-variants.{Decision, Conjunction}
 use Rattle.text.specs.declared.head.Role.{Role}
 use Rattle.text.specs.declared.head.Role.the-variants.{OwnForm, Argument}
-use Rattle.text.specs.declared.head.Word.the-variants.{Yes, No, Pick, Both, Line}
+use Rattle.text.specs.declared.head.Word.the-variants.{Yes, No, Pick, Line}
 use Rattle.text.proofs.Pieces.{decimal-1, decimal-2, decimal-3, decimal-4}
-use Rattle.text.proofs.Spelling.{literal-flat, line-flat, decision-flat, conjunction-flat, Stands, own-stands}
+use Rattle.text.proofs.Spelling.{restText, literal-flat, line-flat, decision-flat, inner-flat, more-flat, Stands, own-stands}
 use Rattle.text.proofs.Texts.{header-flat}
 use Rattle.text.proofs.Words.{LineMay}
 
@@ -23,7 +26,12 @@ IsNumber x = (v : ℕ) × (v < 10000) × (decimal v ≡ x)
 
 -- a form that may stand in a role
 abbrev pub IsForm : Role → List ℕ → Type 0
-IsForm role x = (f : Form) × Below 10000 10000 f × Stands role f × (printForm f ≡ x)
+IsForm role x = (f : Form) × FormFits 10000 10000 f × Stands role f × (printForm f ≡ x)
+
+-- what may stand after c forms of an operator
+abbrev pub IsRest : Operator → ℕ → List ℕ → Type 0
+IsRest op c x =
+    (fs : Forms) × FormsFit 10000 10000 fs × (leastForms ≤ c + count fs) × (c + count fs ≤ mostForms op) × (restText fs [] ≡ x)
 
 abbrev pub IsLines : List ℕ → Type 0
 IsLines x = (fs : List Form) × (fs ≢ []) × GrammaticalLines fs × (printLines fs ≡ x)
@@ -71,26 +79,18 @@ module _ (role : Role) where
         ∙ ap (λ (z : List ℕ). 40 ∷ (spelling (cond v Yes No) ++ (z ++ (41 ∷ [])))) e,
   )
 
-  -- a decision, after its word: a number and two forms
-  pub decision-form : (x y z : List ℕ) → IsNumber x → IsForm Argument y → IsForm Argument z
-      → IsForm role (40 ∷ (spelling Pick ++ (x ++ (32 ∷ (y ++ (32 ∷ (z ++ (41 ∷ []))))))))
-  decision-form x y z (n, l, e) (f, bf, kf, pf) (g, bg, kg, pg) = (
-    decisionForm n f g,
-    (l, bf, bg),
-    own-stands role (decisionForm n f g) tt,
-    sym (append-nil (printForm (decisionForm n f g))) ∙ decision-flat n f g []
-        ∙ λ i. 40 ∷ (spelling Pick ++ (e i ++ (32 ∷ (pf i ++ (32 ∷ (pg i ++ (41 ∷ []))))))),
+  pub inner-form : (op : Operator) (x : List ℕ) → OperatorFits 10000 op → IsRest op 0 x → IsForm role (printOperator op ++ x)
+  inner-form op x b (fs, bs, least, most, e) = (
+    innerForm op fs,
+    (b, omega arith, omega arith, bs),
+    own-stands role (innerForm op fs) tt,
+    sym (append-nil (printForm (innerForm op fs))) ∙ inner-flat op fs [] ∙ ap (λ (z : List ℕ). printOperator op ++ z) e,
   )
 
-  pub conjunction-form : (y z : List ℕ) → IsForm Argument y → IsForm Argument z
-      → IsForm role (40 ∷ (spelling Both ++ (32 ∷ (y ++ (32 ∷ (z ++ (41 ∷ [])))))))
-  conjunction-form y z (f, bf, kf, pf) (g, bg, kg, pg) = (
-    conjunctionForm f g,
-    (bf, bg),
-    own-stands role (conjunctionForm f g) tt,
-    sym (append-nil (printForm (conjunctionForm f g))) ∙ conjunction-flat f g []
-        ∙ λ i. 40 ∷ (spelling Both ++ (32 ∷ (pf i ++ (32 ∷ (pg i ++ (41 ∷ [])))))),
-  )
+  -- `pick`, by the text of its number
+  pub decision-form : (v : ℕ) (x y : List ℕ) → IsNumber x → IsRest (Decision v) 0 y → IsForm role (40 ∷ (spelling Pick ++ (x ++ y)))
+  decision-form v x y (n, l, e) r =
+      subst (IsForm role) (decision-flat n y ∙ ap (λ (z : List ℕ). 40 ∷ (spelling Pick ++ (z ++ y))) e) (inner-form (Decision n) y l r)
 
 pub line-form : (role : Role) (x : List ℕ) → LineMay role → IsNumber x → IsForm role (40 ∷ (spelling Line ++ (x ++ (41 ∷ []))))
 line-form role x l (n, m, e) = (
@@ -103,6 +103,53 @@ line-form role x l (n, m, e) = (
     stands : (role : Role) → LineMay role → Stands role (lineForm n)
     stands OwnForm l = l
     stands Argument l = tt
+
+-- ---- the rest of an inner form
+-- the closing bracket
+pub closed-rest : (op : Operator) (c : ℕ) → leastForms ≤ c → c ≤ mostForms op → IsRest op c (41 ∷ [])
+unfolding printForm
+closed-rest op c l m = (none, tt, omega arith, omega arith, refl)
+
+-- one form more
+pub more-rest : (op : Operator) (c : ℕ) (x y : List ℕ) → IsForm Argument x → IsRest op (c + 1) y → IsRest op c (32 ∷ (x ++ y))
+more-rest op c x y (f, b, k, e) (fs, bs, least, most, es) = (
+  more f fs,
+  (b, bs),
+  omega arith,
+  omega arith,
+  more-flat f fs [] ∙ ap₂ (λ (u v : List ℕ). 32 ∷ (u ++ v)) e es,
+)
+
+-- a form to go on with
+abbrev pub trueText : List ℕ
+trueText = ascii "(true)"
+
+pub true-text : (role : Role) → IsForm role trueText
+unfolding printForm
+true-text role = constant-form role true
+
+-- one form more, and two, up to the closing bracket
+abbrev oneForm : List ℕ
+oneForm = ascii " (true))"
+
+abbrev pub twoForms : List ℕ
+twoForms = ascii " (true) (true))"
+
+one-form : (op : Operator) → IsRest op 1 oneForm
+one-form op = more-rest op 1 trueText (41 ∷ []) (true-text Argument) (closed-rest op 2 (omega arith) (two op))
+  where
+    two : (op : Operator) → 2 ≤ mostForms op
+    two (Decision x) = omega arith
+    two Conjunction = omega arith
+
+pub two-forms : (op : Operator) → IsRest op 0 twoForms
+two-forms op = more-rest op 0 trueText oneForm (true-text Argument) (one-form op)
+
+-- however many forms there are, up to the most, the rest can be made good
+pub some-rest : (op : Operator) (c : ℕ) → c ≤ mostForms op → (x : List ℕ) × IsRest op c x
+some-rest op zero l = (twoForms, two-forms op)
+some-rest op (suc zero) l = (oneForm, one-form op)
+some-rest op (suc (suc c)) l = (41 ∷ [], closed-rest op (suc (suc c)) (omega arith) l)
 
 -- ---- lines and texts
 pub last-line : (x : List ℕ) → IsForm OwnForm x → IsLines (x ++ (10 ∷ []))

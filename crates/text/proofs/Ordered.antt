@@ -6,10 +6,13 @@ use mathlib.Core.List.{List, [], _∷_, _++_}
 use native.Mathlib.Omega.{arith}
 use lib.Dec.{ltb, leb}
 use lib.ListN.{length, length-append}
-use Rattle.text.specs.Faults.{Between, unless, nodesIn, closing, formFaults, linesFaults, treeFaults}
-use Rattle.text.specs.Syntax.{decimal, printForm, printLines, print, Tree, Form, constantForm, literalForm, decisionForm}
-use Rattle.text.specs.Syntax.{conjunctionForm, lineForm}
-use Rattle.text.proofs.Spelling.{constant-length, literal-length, line-length, decision-length, conjunction-length, begins}
+use Rattle.text.specs.Faults.{Between, unless, nodesIn, nodesInAll, closing, operatorFaults, formsFaults, formFaults, linesFaults}
+use Rattle.text.specs.Faults.{treeFaults}
+use Rattle.text.specs.Syntax.{decimal, printOperator, printForm, printForms, printLines, print, Tree, Form, Forms, constantForm}
+use Rattle.text.specs.Syntax.{literalForm, innerForm, lineForm, none, more}
+use Rattle.text.specs.declared.head.Operator.{Operator}
+use Rattle.text.specs.declared.head.Operator.the-variants.{Decision, Conjunction}
+use Rattle.text.proofs.Spelling.{constant-length, literal-length, line-length, inner-length, more-length, begins}
 use Rattle.text.proofs.Texts.{header-flat}
 
 lower : (lo mid hi : ℕ) (fs : List (ℕ × ℕ)) → lo ≤ mid → Between mid hi fs → Between lo hi fs
@@ -24,21 +27,26 @@ between-unless : (lo hi : ℕ) (b : Bool) (k p : ℕ) → lo ≤ p → p ≤ hi 
 between-unless lo hi true k p l m = omega arith
 between-unless lo hi false k p l m = (l, m)
 
--- two arguments after place p, and what stands at the closing bracket
-args-ordered : (p c : ℕ) (f g : Form) (fs gs own : List (ℕ × ℕ))
-    → let q : ℕ = p + 1 + length (printForm f) in
-    Between (p + 1) (closing (p + 1) f) fs → Between (q + 1) (closing (q + 1) g) gs → q + 1 + length (printForm g) ≡ c
-    → ((lo : ℕ) → lo ≤ c → Between lo c own) → Between p c ((fs ++ gs) ++ own)
-args-ordered p c f g fs gs own bf bg e bo =
-    let q : ℕ = p + 1 + length (printForm f) in
+operator-ordered : (N p lo hi : ℕ) (op : Operator) → lo ≤ p → p ≤ hi → Between lo hi (operatorFaults N p op)
+operator-ordered N p lo hi (Decision x) l m = between-unless lo hi (ltb x N) 12 p l m
+operator-ordered N p lo hi Conjunction l m = omega arith
+
+-- forms from a place on, by the faults of one
+forms-ordered : (form : ℕ → ℕ → Form → List (ℕ × ℕ)) → ((at n : ℕ) (f : Form) → Between at (closing at f) (form at n f))
+    → (at n : ℕ) (fs : Forms) → Between at (at + length (printForms fs)) (formsFaults form at n fs)
+unfolding formsFaults printForm
+forms-ordered form ih at n none = omega arith
+forms-ordered form ih at n (more f fs) =
+    let q : ℕ = at + 1 + length (printForm f) in
+    let hi : ℕ = at + length (printForms (more f fs)) in
+    let e : q + length (printForms fs) ≡ hi = omega (arith, more-length f fs) in
+    let one : List (ℕ × ℕ) = form (at + 1) n f in
+    let others : List (ℕ × ℕ) = formsFaults form q (n + nodesIn f) fs in
+    let rest : Between q hi others = subst (λ (z : ℕ). Between q z others) e (forms-ordered form ih q (n + nodesIn f) fs) in
     let (x, i) = begins f in
-    let (y, j) = begins g in
-    let a : closing (p + 1) f ≤ q + 1 = omega (arith, ap length i) in
-    let b : closing (q + 1) g ≤ c = omega (arith, ap length j) in
-    between-append p (closing (q + 1) g) c (fs ++ gs) own
-    (between-append p (closing (p + 1) f) (closing (q + 1) g) fs gs (lower p (p + 1) (closing (p + 1) f) fs (omega arith) bf)
-    (lower (closing (p + 1) f) (q + 1) (closing (q + 1) g) gs a bg))
-    (bo (closing (q + 1) g) b)
+    lower at (at + 1) hi (one ++ others) (omega arith)
+    (between-append (at + 1) (closing (at + 1) f) hi one others (ih (at + 1) n f)
+    (lower (closing (at + 1) f) q hi others (omega (arith, ap length i)) rest))
 
 pub form-ordered : (N k room d at n : ℕ) (f : Form) → Between at (closing at f) (formFaults N k room d at n f)
 unfolding formFaults
@@ -51,29 +59,16 @@ form-ordered N k room (suc d) at n (literalForm v x) =
     between-append at p p (unless (ltb x N) 12 p) (unless (ltb n room) 15 p)
     (between-unless at p (ltb x N) 12 p (omega (arith, literal-length v x)) (omega arith))
     (between-unless p p (ltb n room) 15 p (omega arith) (omega arith))
-form-ordered N k room (suc d) at n (decisionForm x f g) =
-    let p : ℕ = at + 6 + length (decimal x) in
-    let q : ℕ = p + 1 + length (printForm f) in
-    let c : ℕ = closing at (decisionForm x f g) in
-    let fs : List (ℕ × ℕ) = formFaults N k room d (p + 1) n f in
-    let gs : List (ℕ × ℕ) = formFaults N k room d (q + 1) (n + nodesIn f) g in
-    let own : List (ℕ × ℕ) = unless (ltb (n + nodesIn f + nodesIn g) room) 15 c in
-    between-append at p c (unless (ltb x N) 12 p) ((fs ++ gs) ++ own)
-    (between-unless at p (ltb x N) 12 p (omega arith) (omega arith))
-    (args-ordered p c f g fs gs own (form-ordered N k room d (p + 1) n f) (form-ordered N k room d (q + 1) (n + nodesIn f) g)
-    (omega (arith, decision-length x f g))
-    (λ lo l. between-unless lo c (ltb (n + nodesIn f + nodesIn g) room) 15 c l (omega arith)))
-form-ordered N k room (suc d) at n (conjunctionForm f g) =
-    let p : ℕ = at + 5 in
-    let q : ℕ = p + 1 + length (printForm f) in
-    let c : ℕ = closing at (conjunctionForm f g) in
-    let fs : List (ℕ × ℕ) = formFaults N k room d (p + 1) n f in
-    let gs : List (ℕ × ℕ) = formFaults N k room d (q + 1) (n + nodesIn f) g in
-    let own : List (ℕ × ℕ) = unless (ltb (n + nodesIn f + nodesIn g) room) 15 c in
-    lower at p c ((fs ++ gs) ++ own) (omega arith)
-    (args-ordered p c f g fs gs own (form-ordered N k room d (p + 1) n f) (form-ordered N k room d (q + 1) (n + nodesIn f) g)
-    (omega (arith, conjunction-length f g))
-    (λ lo l. between-unless lo c (ltb (n + nodesIn f + nodesIn g) room) 15 c l (omega arith)))
+form-ordered N k room (suc d) at n (innerForm op fs) =
+    let p : ℕ = at + length (printOperator op) in
+    let c : ℕ = closing at (innerForm op fs) in
+    let e : p + length (printForms fs) ≡ c = omega (arith, inner-length op fs) in
+    let all : List (ℕ × ℕ) = formsFaults (formFaults N k room d) p n fs in
+    let own : List (ℕ × ℕ) = unless (ltb (n + nodesInAll fs) room) 15 c in
+    let forms : Between p c all =
+    subst (λ (z : ℕ). Between p z all) e (forms-ordered (formFaults N k room d) (form-ordered N k room d) p n fs) in
+    between-append at p c (operatorFaults N p op) (all ++ own) (operator-ordered N p at p op (omega arith) (omega arith))
+    (between-append p c c all own forms (between-unless c c (ltb (n + nodesInAll fs) room) 15 c (omega arith) (omega arith)))
 form-ordered N k room (suc d) at n (lineForm j) =
     between-unless at (closing at (lineForm j)) (ltb j k) 13 (closing at (lineForm j)) (omega (arith, line-length j)) (omega arith)
 

@@ -12,7 +12,7 @@ use lib.Seq.{drop-drop, drop-append-seam, getD-drop}
 use borrow.Author.Tests.{eq-eqb, ne-eqb, lt-ltb, le-ltb}
 use Rattle.text.specs.Read.{byteAt, digitAt, digitsAt, numberAt, matchAt, rangedAt, wordAt, tailAt, headAt}
 use Rattle.text.specs.Syntax.{decimal}
-use Rattle.text.specs.Words.{spelling, wordsFor}
+use Rattle.text.specs.Words.{spelling, headWords}
 use Rattle.text.specs.declared.answer.Fault.{Fault}
 use Rattle.text.specs.declared.head.InRange.the-variants.{Inside, Unfit}
 use Rattle.text.specs.declared.head.Limits.{Limits}
@@ -215,7 +215,7 @@ module _ (s : List ℕ) where
 
   -- a word is the one that begins with its first byte
   letter : (w : Word) (role : Role) (at : ℕ) → May role w
-      → letterThen s at (wordsFor role) (first w) ≡ spelledOf w (matchAt s at (spelling w))
+      → letterThen s at (headWords role) (first w) ≡ spelledOf w (matchAt s at (spelling w))
   letter False role at m = refl
   letter True role at m = refl
   letter Yes role at m = refl
@@ -231,7 +231,7 @@ module _ (s : List ℕ) where
   unfolding headAt
   opening w role at g r m h =
       let h₁ : Here s (at + 1) (spelling w ++ r) = next at 40 (spelling w ++ r) h in
-      let e : wordAt s (at + 1) (wordsFor role) ≡ Is w (at + 1 + length (spelling w)) =
-      by-letter s (at + 1) (wordsFor role) (apart role) ∙ ap (letterThen s (at + 1) (wordsFor role)) (starts w (at + 1) r h₁)
+      let e : wordAt s (at + 1) (headWords role) ≡ Is w (at + 1 + length (spelling w)) =
+      by-letter s (at + 1) (headWords role) (apart role) ∙ ap (letterThen s (at + 1) (headWords role)) (starts w (at + 1) r h₁)
       ∙ letter w role (at + 1) m ∙ ap (spelledOf w) (matched (spelling w) r (at + 1) h₁) in
       rw (eq-eqb (byteAt s at) 40 (byte at 40 (spelling w ++ r) h), e)

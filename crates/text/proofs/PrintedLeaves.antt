@@ -2,15 +2,16 @@
 use Prim.Native.Nat.{ℕ, suc, _+_, _<_}
 use mathlib.Core.Path.{_≡_, refl, sym, ap, subst, _∙_}
 use mathlib.Core.Bool.{Bool, true, false, cond}
-use mathlib.Core.List.{List, _∷_, _++_}
+use mathlib.Core.List.{List, [], _∷_, _++_}
 use native.Mathlib.Omega.{arith}
 use native.Mathlib.Decide.{decLt}
 use lib.Dec.{ltb, leb}
 use lib.ListN.{length, getD}
 use borrow.Author.Tests.{eq-eqb, lt-ltb, le-ltb, le-leb, lt-leb}
+use Rattle.table.specs.Node.{encoded, encode, Node, constant, literal}
+use Rattle.table.specs.declared.layout.NodeWords.{NodeWords}
 use Rattle.text.specs.Faults.{unless}
-use Rattle.text.specs.Read.{byteAt, rangedAt, leafOf, lineOf, tailAt, headAt, store, closeAt, setting, openedOf, formAt, Stepped}
-use Rattle.text.specs.Read.{Setting}
+use Rattle.text.specs.Read.{byteAt, rangedAt, leafOf, lineOf, tailAt, headAt, closeAt, setting, openedOf, formAt, Setting}
 use Rattle.text.specs.Syntax.{decimal, printForm, constantForm, literalForm, lineForm}
 use Rattle.text.specs.Words.{spelling}
 use Rattle.text.specs.declared.answer.Fault.{Fault}
@@ -24,6 +25,7 @@ use Rattle.text.specs.declared.head.Role.{Role}
 use Rattle.text.specs.declared.head.Role.the-variants.{Argument}
 use Rattle.text.specs.declared.head.Word.{Word}
 use Rattle.text.specs.declared.head.Word.the-variants.{False, True, Yes, No, Line as LineWord}
+use Rattle.text.proofs.CompiledWords.{made}
 use Rattle.text.proofs.FirstFault.{StepRead}
 use Rattle.text.proofs.Pieces.{Here, byte, past, next, ranged, opening}
 use Rattle.text.proofs.Spelling.{constant-flat, literal-flat, line-flat}
@@ -51,14 +53,12 @@ module _ (s : List ℕ) (N k room : ℕ) (lines : List ℕ) where
   G = setting s lines lim
 
   -- a closing bracket, by the room for a node
-  pub close-read : (p : ℕ) (w : List ℕ) (n kind x a b : ℕ) (r : List ℕ) → Here s p (41 ∷ r)
-      → StepRead (unless (ltb n room) 15 p) (record { step = Made (p + 1) (n + 1) n; words = store w n kind x a b })
-      (closeAt s p w n room kind x a b)
+  pub close-read : (p : ℕ) (w : List ℕ) (n : ℕ) (y : NodeWords) (r : List ℕ) → Here s p (41 ∷ r)
+      → StepRead (unless (ltb n room) 15 p) (made p w n y) (closeAt s p w n room y)
   unfolding closeAt
-  close-read p w n kind x a b r h = by (decLt n room)
+  close-read p w n y r h = by (decLt n room)
     where
-      by : Dec (n < room) → StepRead (unless (ltb n room) 15 p) (record { step = Made (p + 1) (n + 1) n; words = store w n kind x a b })
-          (closeAt s p w n room kind x a b)
+      by : Dec (n < room) → StepRead (unless (ltb n room) 15 p) (made p w n y) (closeAt s p w n room y)
       by (yes l) = rw (lt-ltb n room l, eq-eqb (byteAt s p) 41 (byte s p 41 r h), lt-leb room n l)
       by (no l) =
           rw (le-ltb n room (omega arith), eq-eqb (byteAt s p) 41 (byte s p 41 r h), le-leb room n (omega arith))
@@ -71,20 +71,23 @@ module _ (s : List ℕ) (N k room : ℕ) (lines : List ℕ) where
   by-head d role at w n o h = ap (openedOf (formAt d G Argument) G w n) h
 
   module _ (d : ℕ) (role : Role) (at : ℕ) (w : List ℕ) (n : ℕ) where
+    -- a head with no child, and the closing bracket
+    leaf-read : (kd x p : ℕ) (y : Node) (r : List ℕ) → headAt s at role lim ≡ Leaf kd x p → encoded kd x [] ≡ encode y → Here s p (41 ∷ r)
+        → StepRead (unless (ltb n room) 15 p) (made p w n (encode y)) (formAt (suc d) G role at w n)
+    leaf-read kd x p y r e i h =
+        subst (StepRead (unless (ltb n room) 15 p) (made p w n (encode y)))
+        (ap (closeAt s p w n room) (sym i) ∙ sym (by-head d role at w n (Leaf kd x p) e)) (close-read p w n (encode y) r h)
+
     pub constant-read : (v : Bool) (r : List ℕ) → Here s at (printForm (constantForm v) ++ r)
         → let p : ℕ = at + 1 + length (spelling (cond v True False)) in
-        StepRead (unless (ltb n room) 15 p) (record { step = Made (p + 1) (n + 1) n; words = store w n (cond v 1 0) 0 0 0 })
-        (formAt (suc d) G role at w n)
+        StepRead (unless (ltb n room) 15 p) (made p w n (encode (constant v))) (formAt (suc d) G role at w n)
     unfolding tailAt
     constant-read v r h =
         let y : Word = cond v True False in
-        let kd : ℕ = cond v 1 0 in
         let p : ℕ = at + 1 + length (spelling y) in
         let h₁ : Here s at (40 ∷ (spelling y ++ (41 ∷ r))) = subst (Here s at) (constant-flat v r) h in
         let h₂ : Here s p (41 ∷ r) = past s (at + 1) (spelling y) (41 ∷ r) (next s at 40 (spelling y ++ (41 ∷ r)) h₁) in
-        let e : headAt s at role lim ≡ Leaf kd 0 p = opening s y role at lim (41 ∷ r) (may v) h₁ ∙ tail v p in
-        subst (StepRead (unless (ltb n room) 15 p) (record { step = Made (p + 1) (n + 1) n; words = store w n kd 0 0 0 }))
-        (sym (by-head d role at w n (Leaf kd 0 p) e)) (close-read p w n kd 0 0 0 r h₂)
+        leaf-read (cond v 1 0) 0 p (constant v) r (opening s y role at lim (41 ∷ r) (may v) h₁ ∙ tail v p) (words v) h₂
       where
         may : (v : Bool) → May role (cond v True False)
         may true = tt
@@ -94,10 +97,13 @@ module _ (s : List ℕ) (N k room : ℕ) (lines : List ℕ) where
         tail true p = refl
         tail false p = refl
 
+        words : (v : Bool) → encoded (cond v 1 0) 0 [] ≡ encode (constant v)
+        words true = refl
+        words false = refl
+
     pub literal-read : (v : Bool) (x : ℕ) (r : List ℕ) → x < 10000 → Here s at (printForm (literalForm v x) ++ r)
         → let p : ℕ = at + 1 + length (spelling (cond v Yes No)) + length (decimal x) in
-        StepRead (unless (ltb x N) 12 p ++ unless (ltb n room) 15 p)
-        (record { step = Made (p + 1) (n + 1) n; words = store w n (cond v 2 3) x 0 0 }) (formAt (suc d) G role at w n)
+        StepRead (unless (ltb x N) 12 p ++ unless (ltb n room) 15 p) (made p w n (encode (literal v x))) (formAt (suc d) G role at w n)
     unfolding tailAt
     literal-read v x r lx h = by (decLt x N)
       where
@@ -121,6 +127,10 @@ module _ (s : List ℕ) (N k room : ℕ) (lines : List ℕ) where
         tail true q = refl
         tail false q = refl
 
+        words : (v : Bool) → encoded (cond v 2 3) x [] ≡ encode (literal v x)
+        words true = refl
+        words false = refl
+
         h₁ : Here s at (40 ∷ (spelling y ++ (decimal x ++ (41 ∷ r))))
         h₁ = subst (Here s at) (literal-flat v x r) h
 
@@ -132,14 +142,13 @@ module _ (s : List ℕ) (N k room : ℕ) (lines : List ℕ) where
             opening s y role at lim (decimal x ++ (41 ∷ r)) (may v) h₁ ∙ tail v q
             ∙ ap (leafOf kd) (range-read s x N 41 q Range r lx (omega arith) h₂)
 
-        good : Stepped
-        good = record { step = Made (p + 1) (n + 1) n; words = store w n kd x 0 0 }
-
-        by : Dec (x < N) → StepRead (unless (ltb x N) 12 p ++ unless (ltb n room) 15 p) good (formAt (suc d) G role at w n)
+        by : Dec (x < N)
+            → StepRead (unless (ltb x N) 12 p ++ unless (ltb n room) 15 p) (made p w n (encode (literal v x)))
+            (formAt (suc d) G role at w n)
         by (yes a) =
             let t : ltb x N ≡ true = lt-ltb x N a in
             let e : headAt s at role lim ≡ Leaf kd x p = head ∙ ap (λ (b : Bool). leafOf kd (cond b (Inside x p) (Unfit Range p))) t in
-            rw (t, by-head d role at w n (Leaf kd x p) e) (close-read p w n kd x 0 0 r (past s q (decimal x) (41 ∷ r) h₂))
+            rw t (leaf-read kd x p (literal v x) r e (words v) (past s q (decimal x) (41 ∷ r) h₂))
         by (no a) =
             let t : ltb x N ≡ false = le-ltb x N (omega arith) in
             let e : headAt s at role lim ≡ Broken Range p = head ∙ ap (λ (b : Bool). leafOf kd (cond b (Inside x p) (Unfit Range p))) t in

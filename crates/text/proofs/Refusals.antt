@@ -14,14 +14,17 @@ use Rattle.text.specs.Faults.{treeFaults}
 use Rattle.text.specs.Limits.{maxLines}
 use Rattle.text.specs.Meaning.{Bytes}
 use Rattle.text.specs.Read.{headerAt, answers, roomOf, settled, bodyOf, linesAt, ReadOut}
-use Rattle.text.specs.Syntax.{digitText, decimal, printForm, printLines, print, compile, Tree, Grammatical, Form, constantForm}
-use Rattle.text.specs.Syntax.{literalForm, decisionForm, conjunctionForm, lineForm}
+use Rattle.text.specs.Syntax.{digitText, decimal, printOperator, printForm, printForms, printLines, print, compile, Tree, Grammatical}
+use Rattle.text.specs.Syntax.{Form, Forms, constantForm, literalForm, innerForm, lineForm, none, more}
 use Rattle.text.specs.declared.head.InRange.{InRange}
 use Rattle.text.specs.declared.head.InRange.the-variants.{Inside, Unfit}
-use Rattle.text.proofs.Clean.{numbered-first, OfTree, tree-numbered}
-use Rattle.text.proofs.Locality.{body-local}
+use Rattle.text.specs.declared.head.Operator.{Operator}
+use Rattle.text.specs.declared.head.Operator.the-variants.{Decision, Conjunction}
+use Rattle.text.proofs.FaultNumbers.{numbered-first, OfTree, tree-numbered}
+use Rattle.text.proofs.LocalTexts.{body-local}
+use Rattle.text.proofs.PrintedLines.{AnswerRead}
 use Rattle.text.proofs.Readers.{Reader, value-not}
-use Rattle.text.proofs.Texts.{AnswerRead, readBody, treeGood, tree-read}
+use Rattle.text.proofs.Texts.{readBody, treeGood, tree-read}
 use Rattle.text.proofs.Viability.{Said, body-said}
 
 -- ---- the bytes of a printed text are bytes
@@ -48,26 +51,26 @@ decimal-bytes v =
 pub worded : (w : List ℕ) (v : ℕ) (r : List ℕ) → Bytes w → Bytes r → Bytes ((w ++ decimal v) ++ r)
 worded w v r b c = bytes-append (w ++ decimal v) r (bytes-append w (decimal v) b (decimal-bytes v)) c
 
-form-bytes : (f : Form) → Bytes (printForm f)
-unfolding printForm
-form-bytes (constantForm true) = omega arith
-form-bytes (constantForm false) = omega arith
-form-bytes (literalForm true x) = worded (ascii "(yes ") x (41 ∷ []) (omega arith) (omega arith)
-form-bytes (literalForm false x) = worded (ascii "(no ") x (41 ∷ []) (omega arith) (omega arith)
-form-bytes (decisionForm x f g) =
-    let a : List ℕ = (ascii "(pick " ++ decimal x) ++ (32 ∷ []) in
-    bytes-append (((a ++ printForm f) ++ (32 ∷ [])) ++ printForm g) (41 ∷ [])
-    (bytes-append ((a ++ printForm f) ++ (32 ∷ [])) (printForm g)
-    (bytes-append (a ++ printForm f) (32 ∷ [])
-    (bytes-append a (printForm f) (worded (ascii "(pick ") x (32 ∷ []) (omega arith) (omega arith)) (form-bytes f)) (omega arith))
-    (form-bytes g)) (omega arith)
-form-bytes (conjunctionForm f g) =
-    bytes-append (((ascii "(both " ++ printForm f) ++ (32 ∷ [])) ++ printForm g) (41 ∷ [])
-    (bytes-append ((ascii "(both " ++ printForm f) ++ (32 ∷ [])) (printForm g)
-    (bytes-append (ascii "(both " ++ printForm f) (32 ∷ [])
-    (bytes-append (ascii "(both ") (printForm f) (omega arith) (form-bytes f)) (omega arith))
-    (form-bytes g)) (omega arith)
-form-bytes (lineForm j) = worded (ascii "(line ") j (41 ∷ []) (omega arith) (omega arith)
+operator-bytes : (op : Operator) → Bytes (printOperator op)
+operator-bytes (Decision x) = bytes-append (ascii "(pick ") (decimal x) (omega arith) (decimal-bytes x)
+operator-bytes Conjunction = omega arith
+
+mutual
+  unfolding printForm
+
+  form-bytes : (f : Form) → Bytes (printForm f)
+  form-bytes (constantForm true) = omega arith
+  form-bytes (constantForm false) = omega arith
+  form-bytes (literalForm true x) = worded (ascii "(yes ") x (41 ∷ []) (omega arith) (omega arith)
+  form-bytes (literalForm false x) = worded (ascii "(no ") x (41 ∷ []) (omega arith) (omega arith)
+  form-bytes (innerForm op fs) =
+      bytes-append (printOperator op ++ printForms fs) (41 ∷ [])
+      (bytes-append (printOperator op) (printForms fs) (operator-bytes op) (forms-bytes fs)) (omega arith)
+  form-bytes (lineForm j) = worded (ascii "(line ") j (41 ∷ []) (omega arith) (omega arith)
+
+  forms-bytes : (fs : Forms) → Bytes (printForms fs)
+  forms-bytes none = tt
+  forms-bytes (more f fs) = (omega arith, bytes-append (printForm f) (printForms fs) (form-bytes f) (forms-bytes fs))
 
 lines-bytes : (fs : List Form) → Bytes (printLines fs)
 unfolding printLines

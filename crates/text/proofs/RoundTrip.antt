@@ -1,5 +1,5 @@
 -- A table that is written, read again, is that table; and every well-formed table is written where the sink is long enough.
-use Prim.Native.Nat.{ℕ, zero, suc, _+_, _-_, _*_, _/_, _<_, _≤_}
+use Prim.Native.Nat.{ℕ, zero, suc, _+_, _-_, _<_, _≤_}
 use mathlib.Core.Path.{_≡_, refl, sym, ap, _∙_}
 use mathlib.Core.Bool.{true, false, not}
 use mathlib.Core.Logic.{_≢_}
@@ -11,19 +11,20 @@ use lib.Dec.{T, ltb, leb→le}
 use lib.ListN.{length, take, drop, length-append, replicate}
 use lib.Seq.{take-at}
 use borrow.Author.Tests.{lt-ltb, le-ltb}
-use Rattle.masks.proofs.Tests.{and-l, and-r, not-not}
-use Rattle.table.specs.Node.{kind, word, nodeAt, nodeWords}
+use Rattle.masks.proofs.Tests.{and-l, and-r}
+use Rattle.table.specs.Layout.{wordsFor, roomIn}
+use Rattle.table.specs.Node.{maxNodes}
 use Rattle.table.specs.Outcome.{answered, Outcome, refused}
-use Rattle.table.specs.Words.{wellFormed, inRange, malformed, checkWords}
+use Rattle.table.specs.Words.{inRange, malformed, checkWords}
 use Rattle.table.proofs.Checking.{accepted-by}
+use Rattle.text.specs.Limits.{maxBytes}
 use Rattle.text.specs.Read.{answers, roomOf, readText}
 use Rattle.text.specs.Syntax.{printLines, print, compileLines, compile, Tree, Form}
 use Rattle.text.specs.Write.{writeText, tableText, writeChecked, writeTable, WriteOut}
 use Rattle.text.proofs.Clean.{lines-compiled}
 use Rattle.text.proofs.Meaning.{read-complete}
 use Rattle.text.proofs.Readers.{value-not}
-use Rattle.text.proofs.WrittenLines.{formsFrom, all-forms, decimal-most, node-line, NodeIs, lines-fine, lines-compile}
-use Rattle.text.proofs.WrittenLines.{words-take}
+use Rattle.text.proofs.WrittenLines.{formsFrom, all-forms, decimal-most, lines-fine, lines-compile}
 
 -- ---- what is written of a well-formed table
 abbrev written : ℕ → ℕ → List ℕ → Tree
@@ -36,32 +37,26 @@ module _ (N n : ℕ) (w : List ℕ) (h : checkWords N n w ≡ answered tt) where
       let (range, none) = accepted-by N n w ((22, malformed N w) ∷ []) h in
       (range, none (22, malformed N w) (List·Memᴰ·head refl))
 
-  nodes : (i : ℕ) → i < n → NodeIs N w i
-  unfolding malformed nodeAt
-  nodes i l =
-      node-line N i (word w i 0) (word w i 1) (word w i 2) (word w i 3)
-      (not-not (wellFormed N i (kind (word w i 0)) (word w i 1) (word w i 2) (word w i 3)) (well .1 i l))
-
   prints : print (written N n w) ≡ tableText N n w
   unfolding tableText
   prints = ap (λ (y : List Form). print (record { variables = N; lines = y })) (sym (all-forms w n))
 
-  -- its text has at most 40,000 bytes
-  pub table-text-short : length (tableText N n w) ≤ 40000
+  -- its text has at most 110,000 bytes
+  pub table-text-short : length (tableText N n w) ≤ maxBytes
   unfolding print
   table-text-short =
       let r : T (inRange N n w) = well .0 in
       let l₂ : N ≤ 40 = leb→le N 40 (search (and-l, and-r)) in
       let l₄ : n ≤ 1024 = leb→le n 1024 (search (and-l, and-r)) in
-      let (gr, within, count, long) = lines-fine N w n 0 l₂ (omega arith) (λ j l. nodes j (omega arith)) in
+      let (gr, within, count, long) = lines-fine N w n 0 l₂ (omega arith) (λ j l. well .1 j (omega arith)) in
       omega (arith, header-length, long, ap length prints)
     where
       header-length : length (print (written N n w)) ≤ 15 + length (printLines (formsFrom w 0 n))
       header-length = simp length-append (omega (arith, decimal-most N))
 
   -- read again with words enough, the text is that table
-  round-trip : (m : ℕ) → nodeWords * n ≤ m
-      → readText (tableText N n w) m ≡ answers (answered (N, n)) (take (nodeWords * n) w ++ replicate (m - nodeWords * n) 0)
+  round-trip : (m : ℕ) → wordsFor n ≤ m
+      → readText (tableText N n w) m ≡ answers (answered (N, n)) (take (wordsFor n) w ++ replicate (m - wordsFor n) 0)
   unfolding compile
   round-trip m lm =
       let r : T (inRange N n w) = well .0 in
@@ -69,15 +64,16 @@ module _ (N n : ℕ) (w : List ℕ) (h : checkWords N n w ≡ answered tt) where
       let l₂ : N ≤ 40 = leb→le N 40 (search (and-l, and-r)) in
       let l₃ : 1 ≤ n = leb→le 1 n (search (and-l, and-r)) in
       let l₄ : n ≤ 1024 = leb→le n 1024 (search (and-l, and-r)) in
-      let l₅ : 4 * n ≤ length w = leb→le (4 * n) (length w) (search (and-l, and-r)) in
+      let l₅ : wordsFor n ≤ length w = leb→le (wordsFor n) (length w) (search (and-l, and-r)) in
       let fs : List Form = formsFrom w 0 n in
       let z : 0 + n ≡ n = zero-add n in
-      let (gr, within, count, long) = lines-fine N w n 0 l₂ (omega arith) (λ j l. nodes j (omega arith)) in
-      let (i, j) = lines-compiled [] 0 fs in
-      let c : compileLines [] 0 fs .words ≡ take (4 * n) w =
-      lines-compile N w n 0 [] refl (λ j l. absurd (not-suc-le-zero l)) (λ j l. nodes j (omega arith)) ∙ words-take N w n 0 (omega arith) in
+      let (gr, within, count, long) = lines-fine N w n 0 l₂ (omega arith) (λ j l. well .1 j (omega arith)) in
+      let (i, j) = lines-compiled [] 0 fs gr in
+      let c : compileLines [] 0 fs .words ≡ take (wordsFor n) w =
+      lines-compile N w n 0 [] refl (λ j l. absurd (not-suc-le-zero l)) (λ j l. well .1 j (omega arith)) (omega arith)
+      ∙ ap (λ (y : ℕ). take (wordsFor y) w) z in
       let room : n ≤ roomOf m = fits m lm l₄ in
-      read-complete (tableText N n w) m N n (take (4 * n) w ++ replicate (m - 4 * n) 0)
+      read-complete (tableText N n w) m N n (take (wordsFor n) w ++ replicate (m - wordsFor n) 0)
       (record {
         tree = written N n w;
         grammatical = record { header = omega arith; some = some-form n l₃; each = gr };
@@ -92,15 +88,15 @@ module _ (N n : ℕ) (w : List ℕ) (h : checkWords N n w ≡ answered tt) where
         prints = prints;
         variables = refl;
         nodes = omega arith;
-        table = ap (λ (y : List ℕ). y ++ replicate (m - 4 * n) 0) c;
+        table = ap (λ (y : List ℕ). y ++ replicate (m - wordsFor n) 0) c;
       })
     where
-      fits : (m : ℕ) → 4 * n ≤ m → n ≤ 1024 → n ≤ roomOf m
-      fits m l k = by (decLt (m / 4) 1024)
+      fits : (m : ℕ) → wordsFor n ≤ m → n ≤ 1024 → n ≤ roomOf m
+      fits m l k = by (decLt (roomIn m) maxNodes)
         where
-          by : Dec (m / 4 < 1024) → n ≤ roomOf m
-          by (yes a) = rw (lt-ltb (m / 4) 1024 a) (omega arith)
-          by (no a) = rw (le-ltb (m / 4) 1024 (omega arith)) k
+          by : Dec (roomIn m < maxNodes) → n ≤ roomOf m
+          by (yes a) = rw (lt-ltb (roomIn m) maxNodes a) (omega arith)
+          by (no a) = rw (le-ltb (roomIn m) maxNodes (omega arith)) k
 
       some-form : (k : ℕ) → 1 ≤ k → formsFrom w 0 k ≢ []
       some-form zero l e = absurd (omega arith)
@@ -117,9 +113,9 @@ writes N n w sink h l =
     ap (λ (z : Outcome (Unit {0})). writeChecked text sink z .answer) h ∙ rw fits
 
 -- where a table is written, what stands in the sink is read as that table, and the other words are 0
-pub written-read : (N n : ℕ) (w sink : List ℕ) (k m : ℕ) → writeTable N n w sink .answer ≡ answered k → nodeWords * n ≤ m
+pub written-read : (N n : ℕ) (w sink : List ℕ) (k m : ℕ) → writeTable N n w sink .answer ≡ answered k → wordsFor n ≤ m
     → readText (take k (writeTable N n w sink .sink)) m
-    ≡ answers (answered (N, n)) (take (nodeWords * n) w ++ replicate (m - nodeWords * n) 0)
+    ≡ answers (answered (N, n)) (take (wordsFor n) w ++ replicate (m - wordsFor n) 0)
 unfolding writeTable
 written-read N n w sink k m h l = checked (checkWords N n w) refl h
   where
@@ -129,7 +125,7 @@ written-read N n w sink k m h l = checked (checkWords N n w) refl h
     -- what is to be shown of what is written
     Again : WriteOut → Type 0
     Again o =
-        readText (take k (o .sink)) m ≡ answers (answered (N, n)) (take (nodeWords * n) w ++ replicate (m - nodeWords * n) 0)
+        readText (take k (o .sink)) m ≡ answers (answered (N, n)) (take (wordsFor n) w ++ replicate (m - wordsFor n) 0)
 
     sunk : checkWords N n w ≡ answered tt → Dec (length sink < length text) → writeText text sink .answer ≡ answered k
         → Again (writeText text sink)

@@ -5,11 +5,14 @@ use mathlib.Core.Bool.{Bool, true, false, cond}
 use mathlib.Core.List.{List, _∷_, _++_, append-assoc}
 use native.Mathlib.Omega.{arith}
 use lib.ListN.{length, length-append}
-use Rattle.text.specs.Syntax.{decimal, printForm, Own, Form, constantForm, literalForm, decisionForm, conjunctionForm, lineForm}
+use Rattle.text.specs.Syntax.{decimal, printOperator, printForm, printForms, Own, Form, Forms, constantForm, literalForm, innerForm}
+use Rattle.text.specs.Syntax.{lineForm, more}
 use Rattle.text.specs.Words.{spelling}
+use Rattle.text.specs.declared.head.Operator.{Operator}
+use Rattle.text.specs.declared.head.Operator.the-variants.{Decision, Conjunction}
 use Rattle.text.specs.declared.head.Role.{Role}
 use Rattle.text.specs.declared.head.Role.the-variants.{OwnForm, Argument}
-use Rattle.text.specs.declared.head.Word.the-variants.{False, True, Yes, No, Pick, Both, Line}
+use Rattle.text.specs.declared.head.Word.the-variants.{False, True, Yes, No, Pick, Line}
 
 pub constant-flat : (v : Bool) (r : List ℕ) → printForm (constantForm v) ++ r ≡ 40 ∷ (spelling (cond v True False) ++ (41 ∷ r))
 unfolding printForm
@@ -26,18 +29,20 @@ pub line-flat : (k : ℕ) (r : List ℕ) → printForm (lineForm k) ++ r ≡ 40 
 unfolding printForm
 line-flat k r = simp append-assoc
 
--- two arguments, each after a space, and the closing bracket
-abbrev pub argsText : Form → Form → List ℕ → List ℕ
-argsText f g r = 32 ∷ (printForm f ++ (32 ∷ (printForm g ++ (41 ∷ r))))
+pub decision-flat : (x : ℕ) (r : List ℕ) → printOperator (Decision x) ++ r ≡ 40 ∷ (spelling Pick ++ (decimal x ++ r))
+decision-flat x r = simp append-assoc
 
-pub decision-flat : (x : ℕ) (f g : Form) (r : List ℕ)
-    → printForm (decisionForm x f g) ++ r ≡ 40 ∷ (spelling Pick ++ (decimal x ++ argsText f g r))
-unfolding printForm
-decision-flat x f g r = simp append-assoc
+-- forms, each after a space, and the closing bracket
+abbrev pub restText : Forms → List ℕ → List ℕ
+restText fs r = printForms fs ++ (41 ∷ r)
 
-pub conjunction-flat : (f g : Form) (r : List ℕ) → printForm (conjunctionForm f g) ++ r ≡ 40 ∷ (spelling Both ++ argsText f g r)
+pub inner-flat : (op : Operator) (fs : Forms) (r : List ℕ) → printForm (innerForm op fs) ++ r ≡ printOperator op ++ restText fs r
 unfolding printForm
-conjunction-flat f g r = simp append-assoc
+inner-flat op fs r = simp append-assoc
+
+pub more-flat : (f : Form) (fs : Forms) (r : List ℕ) → restText (more f fs) r ≡ 32 ∷ (printForm f ++ restText fs r)
+unfolding printForm
+more-flat f fs r = simp append-assoc
 
 pub constant-length : (v : Bool) → length (printForm (constantForm v)) ≡ 2 + length (spelling (cond v True False))
 unfolding printForm
@@ -53,14 +58,14 @@ pub line-length : (k : ℕ) → length (printForm (lineForm k)) ≡ 7 + length (
 unfolding printForm
 line-length k = simp length-append (omega arith)
 
-pub decision-length : (x : ℕ) (f g : Form)
-    → length (printForm (decisionForm x f g)) ≡ 9 + length (decimal x) + length (printForm f) + length (printForm g)
+pub inner-length : (op : Operator) (fs : Forms)
+    → length (printForm (innerForm op fs)) ≡ length (printOperator op) + length (printForms fs) + 1
 unfolding printForm
-decision-length x f g = simp length-append (omega arith)
+inner-length op fs = simp length-append (omega arith)
 
-pub conjunction-length : (f g : Form) → length (printForm (conjunctionForm f g)) ≡ 8 + length (printForm f) + length (printForm g)
+pub more-length : (f : Form) (fs : Forms) → length (printForms (more f fs)) ≡ 1 + length (printForm f) + length (printForms fs)
 unfolding printForm
-conjunction-length f g = simp length-append (omega arith)
+more-length f fs = simp length-append (omega arith)
 
 -- a form may stand in a role
 abbrev pub Stands : Role → Form → Type 0
@@ -77,6 +82,6 @@ begins (constantForm true) = (_, refl)
 begins (constantForm false) = (_, refl)
 begins (literalForm true x) = (_, refl)
 begins (literalForm false x) = (_, refl)
-begins (decisionForm x f g) = (_, refl)
-begins (conjunctionForm f g) = (_, refl)
+begins (innerForm (Decision x) fs) = (_, refl)
+begins (innerForm Conjunction fs) = (_, refl)
 begins (lineForm k) = (_, refl)

@@ -24,12 +24,11 @@ use Rattle.text.specs.declared.head.Limits.{Limits}
 use Rattle.text.specs.declared.head.Matched.{Matched}
 use Rattle.text.specs.declared.head.Matched.the-variants.{Past, Differs}
 use Rattle.text.specs.declared.head.Role.the-variants.{OwnForm}
-use Rattle.text.proofs.Grammar.{IsLines, one-digit, last-line, next-line, whole-text}
+use Rattle.text.proofs.Grammar.{IsLines, one-digit, last-line, next-line, whole-text, trueText, true-text}
 use Rattle.text.proofs.NodeCount.{Grown, own-grown}
 use Rattle.text.proofs.Spans.{viableTo, viableAt, one-byte, MatchSaid, match-said, RangedSaid, ranged-said, past-end}
 use Rattle.text.proofs.Texts.{room-most, readBody}
 use Rattle.text.proofs.ViableForms.{FormSaid, form-said}
-use Rattle.text.proofs.ViableHeads.{trueText, true-text}
 
 module _ (s : List ℕ) where
   -- whatever lines follow the place, they complete a text

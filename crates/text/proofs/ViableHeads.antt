@@ -10,9 +10,9 @@ use borrow.Author.Tests.{eq-eqb, ne-eqb}
 use Rattle.masks.proofs.Tests.{same?}
 use Rattle.text.specs.Ascii.{ascii}
 use Rattle.text.specs.Meaning.{Bytes}
-use Rattle.text.specs.Read.{byteAt, matchAt, rangedAt, leafOf, innerOf, lineOf, tailAt, wordThen, headAt, wordAt}
+use Rattle.text.specs.Read.{byteAt, matchAt, rangedAt, leafOf, decisionOf, lineOf, tailAt, wordThen, headAt, wordAt}
 use Rattle.text.specs.Syntax.{printForm}
-use Rattle.text.specs.Words.{spelling, wordsFor, orWord}
+use Rattle.text.specs.Words.{spelling, headWords, orWord}
 use Rattle.text.specs.declared.answer.Fault.the-variants.{Range, Reference}
 use Rattle.text.specs.declared.head.InRange.{InRange}
 use Rattle.text.specs.declared.head.InRange.the-variants.{Inside, Unfit}
@@ -21,24 +21,16 @@ use Rattle.text.specs.declared.head.Matched.{Matched}
 use Rattle.text.specs.declared.head.Matched.the-variants.{Past, Differs}
 use Rattle.text.specs.declared.head.Opening.{Opening}
 use Rattle.text.specs.declared.head.Opening.the-variants.{Broken, Leaf, Inner, Line}
+use Rattle.text.specs.declared.head.Operator.the-variants.{Decision, Conjunction}
 use Rattle.text.specs.declared.head.Role.{Role}
-use Rattle.text.specs.declared.head.Role.the-variants.{Argument}
 use Rattle.text.specs.declared.head.Spelled.{Spelled}
 use Rattle.text.specs.declared.head.Spelled.the-variants.{Is, None}
 use Rattle.text.specs.declared.head.Word.{Word}
 use Rattle.text.specs.declared.head.Word.the-variants.{False, True, Yes, No, Pick, Both, Line as LineWord}
-use Rattle.text.proofs.Grammar.{IsNumber, IsForm, one-digit, constant-form, literal-form, decision-form, conjunction-form}
-use Rattle.text.proofs.Grammar.{line-form}
+use Rattle.text.proofs.Grammar.{IsNumber, IsForm, IsRest, one-digit, constant-form, literal-form, inner-form, decision-form}
+use Rattle.text.proofs.Grammar.{line-form, trueText, true-text, twoForms, two-forms}
 use Rattle.text.proofs.Spans.{viableAt, Span, join, nothing, one-byte, MatchSaid, match-said, RangedSaid, ranged-said}
 use Rattle.text.proofs.Words.{May, Each, each-may}
-
--- a form to go on with
-abbrev pub trueText : List ℕ
-trueText = ascii "(true)"
-
-pub true-text : (role : Role) → IsForm role trueText
-unfolding printForm
-true-text role = constant-form role true
 
 -- how a form goes on after its word
 going-on : Word → List ℕ
@@ -46,8 +38,8 @@ going-on False = ascii ")"
 going-on True = ascii ")"
 going-on Yes = ascii "0)"
 going-on No = ascii "0)"
-going-on Pick = ascii "0 (true) (true))"
-going-on Both = ascii " (true) (true))"
+going-on Pick = ascii "0" ++ twoForms
+going-on Both = twoForms
 going-on LineWord = ascii "0)"
 
 goes-on : (role : Role) (w : Word) → May role w → IsForm role (40 ∷ (spelling w ++ going-on w))
@@ -56,9 +48,8 @@ goes-on role False m = constant-form role false
 goes-on role True m = constant-form role true
 goes-on role Yes m = literal-form role true (48 ∷ []) (one-digit 0 (omega arith))
 goes-on role No m = literal-form role false (48 ∷ []) (one-digit 0 (omega arith))
-goes-on role Pick m =
-    decision-form role (48 ∷ []) trueText trueText (one-digit 0 (omega arith)) (true-text Argument) (true-text Argument)
-goes-on role Both m = conjunction-form role trueText trueText (true-text Argument) (true-text Argument)
+goes-on role Pick m = decision-form role 0 (48 ∷ []) twoForms (one-digit 0 (omega arith)) (two-forms (Decision 0))
+goes-on role Both m = inner-form role Conjunction twoForms tt (two-forms Conjunction)
 goes-on role LineWord m = line-form role (48 ∷ []) m (one-digit 0 (omega arith))
 
 word-bytes : (w : Word) → Bytes (spelling w)
@@ -75,9 +66,7 @@ module _ (s : List ℕ) where
   OpenSaid role at (Broken f p) = (x : List ℕ) × (t : List ℕ) × IsForm role (x ++ t) × Span s at (viableAt f p) x
   OpenSaid role at (Leaf k v p) = (x : List ℕ) × IsForm role (x ++ (41 ∷ [])) × Span s at p x
   OpenSaid role at (Line k p) = (x : List ℕ) × IsForm role (x ++ (41 ∷ [])) × Span s at p x × (byteAt s p ≡ 41)
-  OpenSaid role at (Inner k v p) =
-      (x : List ℕ) × ((y z : List ℕ) → IsForm Argument y → IsForm Argument z → IsForm role (x ++ (32 ∷ (y ++ (32 ∷ (z ++ (41 ∷ [])))))))
-      × Span s at p x
+  OpenSaid role at (Inner op p) = (x : List ℕ) × ((y : List ℕ) → IsRest op 0 y → IsForm role (x ++ y)) × Span s at p x
 
   -- a number after the word W, before a closing bracket
   module _ (role : Role) (at q : ℕ) (W : List ℕ) (sw : Span s at q W)
@@ -97,23 +86,18 @@ module _ (s : List ℕ) where
     line-by (Unfit f p) (x, t, v, nv, e, sx) = (W ++ x, t, broken-number x t v nv e, join s at q (viableAt f p) W x sw sx)
 
   decision-by : (role : Role) (at q : ℕ) (W : List ℕ) → Span s at q W
-      → ((v y z : List ℕ) → IsNumber v → IsForm Argument y → IsForm Argument z
-      → IsForm role (W ++ (v ++ (32 ∷ (y ++ (32 ∷ (z ++ (41 ∷ []))))))))
-      → (k : ℕ) (u : InRange) → RangedSaid s 32 q u → OpenSaid role at (innerOf k u)
-  decision-by role at q W sw F k (Inside n p) (x, nx, sx, b) = (
-    W ++ x,
-    (λ y z fy fz.
-        subst (IsForm role) (sym (append-assoc W x (32 ∷ (y ++ (32 ∷ (z ++ (41 ∷ []))))))) (F x y z nx fy fz)),
-    join s at q p W x sw sx,
-  )
-  decision-by role at q W sw F k (Unfit f p) (x, t, v, nv, e, sx) =
-      let rest : List ℕ = trueText ++ (32 ∷ (trueText ++ (41 ∷ []))) in
+      → ((v : ℕ) (x y : List ℕ) → IsNumber x → IsRest (Decision v) 0 y → IsForm role (W ++ (x ++ y)))
+      → (u : InRange) → RangedSaid s 32 q u → OpenSaid role at (decisionOf u)
+  decision-by role at q W sw F (Inside n p) (x, nx, sx, b) =
+      (W ++ x, (λ y r. subst (IsForm role) (sym (append-assoc W x y)) (F n x y nx r)), join s at q p W x sw sx)
+  decision-by role at q W sw F (Unfit f p) (x, t, v, nv, e, sx) =
+      let rest : List ℕ = ascii "(true) (true))" in
       let i : v ++ (32 ∷ rest) ≡ x ++ (t ++ rest) =
       sym (append-assoc v (32 ∷ []) rest) ∙ ap (λ (z : List ℕ). z ++ rest) e ∙ append-assoc x t rest in (
         W ++ x,
         t ++ rest,
         subst (IsForm role) (ap (λ (z : List ℕ). W ++ z) i ∙ sym (append-assoc W x (t ++ rest)))
-            (F v trueText trueText nv (true-text Argument) (true-text Argument)),
+            (F 0 v twoForms nv (two-forms (Decision 0))),
         join s at q (viableAt f p) W x sw sx,
       )
 
@@ -152,9 +136,9 @@ module _ (s : List ℕ) where
         leaf-by role at p (40 ∷ spelling No) sp (literal-form role false) 3 (rangedAt s p 0 (g .variables) 41 Range)
         (ranged-said s p 0 (g .variables) 41 Range (omega arith) (omega arith))
     tail-said p Pick m sp =
-        decision-by role at p (40 ∷ spelling Pick) sp (decision-form role) 4 (rangedAt s p 0 (g .variables) 32 Range)
+        decision-by role at p (40 ∷ spelling Pick) sp (decision-form role) (rangedAt s p 0 (g .variables) 32 Range)
         (ranged-said s p 0 (g .variables) 32 Range (omega arith) (omega arith))
-    tail-said p Both m sp = (40 ∷ spelling Both, conjunction-form role, sp)
+    tail-said p Both m sp = (40 ∷ spelling Both, (λ y r. inner-form role Conjunction y tt r), sp)
     tail-said p LineWord m sp =
         line-by role at p (40 ∷ spelling LineWord) sp (λ v nv. line-form role v m nv) (rangedAt s p 0 (g .earlier) 41 Reference)
         (ranged-said s p 0 (g .earlier) 41 Reference (omega arith) (omega arith))
@@ -178,4 +162,4 @@ module _ (s : List ℕ) where
         by (inr n) = rw (ne-eqb (byteAt s at) 40 n) ([], trueText, true-text role, nothing s at)
         by (inl e) =
             rw (eq-eqb (byteAt s at) 40 e)
-            (word-by e (wordAt s (at + 1) (wordsFor role)) (word-said role (at + 1) (wordsFor role) (each-may role)))
+            (word-by e (wordAt s (at + 1) (headWords role)) (word-said role (at + 1) (headWords role) (each-may role)))

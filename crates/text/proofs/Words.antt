@@ -10,7 +10,7 @@ use lib.ListN.{getD, drop}
 use borrow.Author.Tests.{eq-eqb, ne-eqb}
 use Rattle.masks.proofs.Tests.{same?}
 use Rattle.text.specs.Read.{byteAt, matchAt, wordAt}
-use Rattle.text.specs.Words.{spelling, wordsFor, orWord}
+use Rattle.text.specs.Words.{spelling, headWords, orWord}
 use Rattle.text.specs.declared.head.Matched.{Matched}
 use Rattle.text.specs.declared.head.Matched.the-variants.{Past, Differs}
 use Rattle.text.specs.declared.head.Role.{Role}
@@ -38,7 +38,7 @@ abbrev pub Each : (Word → Type 0) → List Word → Type 0
 Each P [] = Unit {0}
 Each P (w ∷ ws) = P w × Each P ws
 
-pub each-may : (role : Role) → Each (May role) (wordsFor role)
+pub each-may : (role : Role) → Each (May role) (headWords role)
 each-may OwnForm = (tt, (tt, (tt, (tt, (tt, (tt, tt))))))
 each-may Argument = (tt, (tt, (tt, (tt, (tt, (tt, (tt, tt)))))))
 
@@ -81,7 +81,7 @@ abbrev Apart : List Word → Type 0
 Apart [] = Unit {0}
 Apart (w ∷ ws) = (begun ws (first w) ≡ false) × Apart ws
 
-pub apart : (role : Role) → Apart (wordsFor role)
+pub apart : (role : Role) → Apart (headWords role)
 apart OwnForm = (refl, (refl, (refl, (refl, (refl, (refl, tt))))))
 apart Argument = (refl, (refl, (refl, (refl, (refl, (refl, (refl, tt)))))))
 

@@ -6,23 +6,41 @@ use lib.Dec.{ltb}
 use lib.ListN.{length}
 use Rattle.table.specs.Words.{variablesFit}
 use Rattle.text.specs.Limits.{maxDepth}
-use Rattle.text.specs.Syntax.{decimal, printForm, Tree, Form, constantForm, literalForm, decisionForm, conjunctionForm, lineForm}
+use Rattle.text.specs.Syntax.{decimal, printOperator, printForm, Tree, Form, Forms, constantForm, literalForm, innerForm, lineForm}
+use Rattle.text.specs.Syntax.{none, more}
+use Rattle.text.specs.declared.head.Operator.{Operator}
+use Rattle.text.specs.declared.head.Operator.the-variants.{Decision, Conjunction}
 
 -- (k, p) where the test fails
 abbrev pub unless : Bool → ℕ → ℕ → List (ℕ × ℕ)
 unless b k p = cond b [] ((k, p) ∷ [])
 
 -- how many nodes a form makes
-abbrev pub nodesIn : Form → ℕ
-nodesIn (constantForm v) = 1
-nodesIn (literalForm v x) = 1
-nodesIn (decisionForm x f g) = nodesIn f + nodesIn g + 1
-nodesIn (conjunctionForm f g) = nodesIn f + nodesIn g + 1
-nodesIn (lineForm k) = 0
+abbrev mutual
+  pub nodesIn : Form → ℕ
+  nodesIn (constantForm v) = 1
+  nodesIn (literalForm v x) = 1
+  nodesIn (innerForm op fs) = nodesInAll fs + 1
+  nodesIn (lineForm k) = 0
+
+  pub nodesInAll : Forms → ℕ
+  nodesInAll none = 0
+  nodesInAll (more f fs) = nodesIn f + nodesInAll fs
 
 -- the place of the closing bracket of a form that starts at a place
 abbrev pub closing : ℕ → Form → ℕ
 closing at f = at + length (printForm f) - 1
+
+-- 12 at the byte after the variable
+abbrev pub operatorFaults : ℕ → ℕ → Operator → List (ℕ × ℕ)
+operatorFaults N p (Decision x) = unless (ltb x N) 12 p
+operatorFaults N p Conjunction = []
+
+-- forms from a place on, each after a space; `form` has the faults of one
+unfoldable pub formsFaults : (ℕ → ℕ → Form → List (ℕ × ℕ)) → ℕ → ℕ → Forms → List (ℕ × ℕ)
+formsFaults form at n none = []
+formsFaults form at n (more f fs) =
+    form (at + 1) n f ++ formsFaults form (at + 1 + length (printForm f)) (n + nodesIn f) fs
 
 -- a form at a place, over N variables, with k earlier lines and room for some nodes, of which n are taken;
 -- d brackets may be open in one another
@@ -32,17 +50,10 @@ module _ (N k room : ℕ) where
   formFaults (suc d) at n (constantForm v) = unless (ltb n room) 15 (closing at (constantForm v))
   formFaults (suc d) at n (literalForm v x) =
       unless (ltb x N) 12 (closing at (literalForm v x)) ++ unless (ltb n room) 15 (closing at (literalForm v x))
-  formFaults (suc d) at n (decisionForm x f g) =
-      let p : ℕ = at + 6 + length (decimal x) in
-      let q : ℕ = p + 1 + length (printForm f) in
-      unless (ltb x N) 12 p
-      ++ ((formFaults d (p + 1) n f ++ formFaults d (q + 1) (n + nodesIn f) g)
-      ++ unless (ltb (n + nodesIn f + nodesIn g) room) 15 (closing at (decisionForm x f g)))
-  formFaults (suc d) at n (conjunctionForm f g) =
-      let p : ℕ = at + 5 in
-      let q : ℕ = p + 1 + length (printForm f) in
-      (formFaults d (p + 1) n f ++ formFaults d (q + 1) (n + nodesIn f) g)
-      ++ unless (ltb (n + nodesIn f + nodesIn g) room) 15 (closing at (conjunctionForm f g))
+  formFaults (suc d) at n (innerForm op fs) =
+      let p : ℕ = at + length (printOperator op) in
+      operatorFaults N p op
+      ++ (formsFaults (formFaults d) p n fs ++ unless (ltb (n + nodesInAll fs) room) 15 (closing at (innerForm op fs)))
   formFaults (suc d) at n (lineForm j) = unless (ltb j k) 13 (closing at (lineForm j))
 
 -- the lines from line k on, the first at a place and after n nodes

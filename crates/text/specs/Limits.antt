@@ -4,7 +4,7 @@ use Rattle.table.specs.Node.{maxNodes}
 
 -- how many bytes a text may have
 abbrev pub maxBytes : ℕ
-maxBytes = 40000
+maxBytes = 110000
 
 -- how many brackets may be open in one another
 abbrev pub maxDepth : ℕ

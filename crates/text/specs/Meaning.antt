@@ -1,10 +1,10 @@
 -- What the reading of a circuit text is to answer, said by the grammar alone: `ReadsAs` leaves exactly one answer for each input.
-use Prim.Native.Nat.{ℕ, _+_, _-_, _*_, _<_, _≤_}
+use Prim.Native.Nat.{ℕ, _+_, _-_, _<_, _≤_}
 use mathlib.Core.Path.{_≡_}
 use mathlib.Core.Logic.{_⊎_}
 use mathlib.Core.List.{List, [], _∷_, _++_}
 use lib.ListN.{length, take, replicate}
-use Rattle.table.specs.Node.{nodeWords}
+use Rattle.table.specs.Layout.{wordsFor}
 use Rattle.table.specs.Outcome.{Outcome, answered, refused}
 use Rattle.text.specs.Faults.{treeFaults}
 use Rattle.text.specs.Limits.{maxBytes}
@@ -28,9 +28,9 @@ pub record Tells (s : List ℕ) (m N n : ℕ) (words : List ℕ) : Type 0 where
   pub prints : print tree ≡ s
   pub variables : tree .variables ≡ N
   pub nodes : compile tree .nodes ≡ n
-  pub table : compile tree .words ++ replicate (m - nodeWords * n) 0 ≡ words
+  pub table : compile tree .words ++ replicate (m - wordsFor n) 0 ≡ words
 
--- 10: more than 40,000 bytes
+-- 10: more than 110,000 bytes
 pub record TooLong (s : List ℕ) (p : ℕ) : Type 0 where
   pub long : maxBytes < length s
   pub place : p ≡ maxBytes

@@ -1,15 +1,14 @@
 -- Where a reading that goes on stands: past its start and inside the text.
-use Prim.Native.Nat.{ℕ, _*_, _<_, _≤_}
+use Prim.Native.Nat.{ℕ, _<_, _≤_}
 use mathlib.Core.List.{List}
 use mathlib.Core.Path.{_≡_}
 use lib.ListN.{length}
-use Rattle.table.specs.Node.{nodeWords, maxNodes}
+use Rattle.table.specs.Layout.{wordsFor}
+use Rattle.table.specs.Node.{maxNodes}
 use Rattle.text.specs.Answers.{readingOf}
-use Rattle.text.specs.Read.{Stepped, Paired, ReadOut}
+use Rattle.text.specs.Read.{Stepped, ReadOut}
 use Rattle.text.specs.declared.answer.Member.{Member}
 use Rattle.text.specs.declared.answer.Member.the-variants.{Close, Next, Wrong, Unordered}
-use Rattle.text.specs.declared.answer.Pair.{Pair}
-use Rattle.text.specs.declared.answer.Pair.the-variants.{Halt, Two}
 use Rattle.text.specs.declared.answer.Reading.{Reading}
 use Rattle.text.specs.declared.answer.Step.{Step}
 use Rattle.text.specs.declared.answer.Step.the-variants.{Stop, Made}
@@ -48,16 +47,12 @@ SpelledRuns s at (Is w p) = (at ≤ p) × (p ≤ length s)
 abbrev pub OpeningRuns : List ℕ → ℕ → ℕ → Opening → Type 0
 OpeningRuns s at earlier (Broken f p) = Unit
 OpeningRuns s at earlier (Leaf k x p) = (at ≤ p) × (p ≤ length s)
-OpeningRuns s at earlier (Inner k x p) = (at ≤ p) × (p ≤ length s)
+OpeningRuns s at earlier (Inner op p) = (at ≤ p) × (p ≤ length s)
 OpeningRuns s at earlier (Line k p) = (at ≤ p) × (p < length s) × (k < earlier)
 
 abbrev pub StepRuns : List ℕ → ℕ → Step → Type 0
 StepRuns s at (Stop f p) = Unit
 StepRuns s at (Made p m a) = (at < p) × (p ≤ length s)
-
-abbrev pub PairRuns : List ℕ → ℕ → Pair → Type 0
-PairRuns s at (Halt f p) = Unit
-PairRuns s at (Two p m a b) = (at < p) × (p ≤ length s)
 
 abbrev pub MemberRuns : List ℕ → ℕ → ℕ → Member → Type 0
 MemberRuns s at N (Close p) = p ≤ length s
@@ -67,16 +62,13 @@ MemberRuns s at N (Unordered p) = Unit
 
 -- what the form reader needs of what it is lent
 pub record Fit (words lines : List ℕ) (g : Limits) : Type 0 where
-  pub enough : nodeWords * g .room ≤ length words
+  pub enough : wordsFor (g .room) ≤ length words
   pub few : g .room ≤ maxNodes
   pub known : g .earlier ≤ length lines
 
 -- the answer r and the words v are those that the definition gives
 abbrev pub StepIs : List ℕ → ℕ → Step → List ℕ → Stepped → Type 0
 StepIs s at r v d = (r ≡ d .step) × (v ≡ d .words) × StepRuns s at r
-
-abbrev pub PairIs : List ℕ → ℕ → Pair → List ℕ → Paired → Type 0
-PairIs s at r v d = (r ≡ d .pair) × (v ≡ d .words) × PairRuns s at r
 
 abbrev pub ReadIs : Reading → List ℕ → ReadOut → Type 0
 ReadIs r v d = (readingOf r ≡ d .answer) × (v ≡ d .words)

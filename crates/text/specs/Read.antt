@@ -1,21 +1,23 @@
 -- The reading of circuit text, for all inputs. A place is a number of bytes from the text's start.
 use Prim.Native.Char.{code}
-use Prim.Native.Nat.{ℕ, zero, suc, _+_, _-_, _*_, _/_}
+use Prim.Native.Nat.{ℕ, zero, suc, _+_, _-_, _*_}
 use mathlib.Core.Bool.{cond}
 use mathlib.Core.List.{List, [], _∷_}
 use lib.Dec.{ltb, leb, eqb}
 use lib.ListN.{length, getD, set, replicate}
-use Rattle.table.specs.Node.{nodeWords, maxVariables, maxNodes, falseNumber, trueNumber, positiveNumber, negativeNumber, decisionNumber}
-use Rattle.table.specs.Node.{conjunctionNumber}
+use Rattle.table.specs.Layout.{roomIn, putWords}
+use Rattle.table.specs.Node.{childrenWords, encoded, maxVariables, maxNodes, falseNumber, trueNumber, positiveNumber, negativeNumber}
+use Rattle.table.specs.Node.{decisionNumber, conjunctionNumber}
 use Rattle.table.specs.Outcome.{Outcome, answered, refused}
+use Rattle.table.specs.declared.layout.Children.{Children}
+use Rattle.table.specs.declared.layout.NodeWords.{NodeWords}
 use Rattle.text.specs.Answers.{faultNumber}
 use Rattle.text.specs.Ascii.{ascii}
 use Rattle.text.specs.Limits.{maxBytes, maxDepth, maxLines}
-use Rattle.text.specs.Words.{spelling, wordsFor, orWord}
+use Rattle.text.specs.Syntax.{leastForms, mostForms}
+use Rattle.text.specs.Words.{spelling, headWords, orWord}
 use Rattle.text.specs.declared.answer.Fault.{Fault}
 use Rattle.text.specs.declared.answer.Fault.the-variants.{Shape, Range, Reference, Depth, Nodes}
-use Rattle.text.specs.declared.answer.Pair.{Pair}
-use Rattle.text.specs.declared.answer.Pair.the-variants.{Halt, Two}
 use Rattle.text.specs.declared.answer.Step.{Step}
 use Rattle.text.specs.declared.answer.Step.the-variants.{Stop, Made}
 use Rattle.text.specs.declared.head.InRange.{InRange}
@@ -25,6 +27,8 @@ use Rattle.text.specs.declared.head.Matched.{Matched}
 use Rattle.text.specs.declared.head.Matched.the-variants.{Past, Differs}
 use Rattle.text.specs.declared.head.Opening.{Opening}
 use Rattle.text.specs.declared.head.Opening.the-variants.{Broken, Leaf, Inner, Line}
+use Rattle.text.specs.declared.head.Operator.{Operator}
+use Rattle.text.specs.declared.head.Operator.the-variants.{Decision, Conjunction}
 use Rattle.text.specs.declared.head.Role.{Role}
 use Rattle.text.specs.declared.head.Role.the-variants.{OwnForm, Argument}
 use Rattle.text.specs.declared.head.Spelled.{Spelled}
@@ -85,9 +89,9 @@ abbrev pub leafOf : ℕ → InRange → Opening
 leafOf kind (Unfit f p) = Broken f p
 leafOf kind (Inside v p) = Leaf kind v p
 
-abbrev pub innerOf : ℕ → InRange → Opening
-innerOf kind (Unfit f p) = Broken f p
-innerOf kind (Inside v p) = Inner kind v p
+abbrev pub decisionOf : InRange → Opening
+decisionOf (Unfit f p) = Broken f p
+decisionOf (Inside v p) = Inner (Decision v) p
 
 abbrev pub lineOf : InRange → Opening
 lineOf (Unfit f p) = Broken f p
@@ -103,8 +107,8 @@ tailAt s at False g = Leaf falseNumber 0 at
 tailAt s at True g = Leaf trueNumber 0 at
 tailAt s at Yes g = literalAt s at positiveNumber g
 tailAt s at No g = literalAt s at negativeNumber g
-tailAt s at Pick g = innerOf decisionNumber (rangedAt s at 0 (g .variables) (code " ") Range)
-tailAt s at Both g = Inner conjunctionNumber 0 at
+tailAt s at Pick g = decisionOf (rangedAt s at 0 (g .variables) (code " ") Range)
+tailAt s at Both g = Inner Conjunction at
 tailAt s at LineWord g = lineOf (rangedAt s at 0 (g .earlier) (code ")") Reference)
 
 abbrev pub wordThen : List ℕ → Limits → Spelled → Opening
@@ -114,7 +118,7 @@ wordThen s g (Is w p) = tailAt s p w g
 -- a form's bracket, word and number
 unfoldable pub headAt : List ℕ → ℕ → Role → Limits → Opening
 headAt s at role g =
-    cond (eqb (byteAt s at) (code "(")) (wordThen s g (wordAt s (at + 1) (wordsFor role))) (Broken Shape at)
+    cond (eqb (byteAt s at) (code "(")) (wordThen s g (wordAt s (at + 1) (headWords role))) (Broken Shape at)
 
 -- ---- a form
 -- an answer with the words afterwards
@@ -122,42 +126,15 @@ pub record Stepped : Type 0 where
   pub step : Step
   pub words : List ℕ
 
-pub record Paired : Type 0 where
-  pub pair : Pair
-  pub words : List ℕ
+abbrev pub stops : Fault → ℕ → List ℕ → Stepped
+stops f at w = record { step = Stop f at; words = w }
 
--- the words of node n
-abbrev pub store : List ℕ → ℕ → ℕ → ℕ → ℕ → ℕ → List ℕ
-store w n kind x a b =
-    let i : ℕ = nodeWords * n in set (set (set (set w i kind) (i + 1) x) (i + 2) a) (i + 3) b
-
--- a closing bracket makes node n
-unfoldable pub closeAt : List ℕ → ℕ → List ℕ → ℕ → ℕ → ℕ → ℕ → ℕ → ℕ → Stepped
-closeAt s at w n room kind x a b =
+-- a closing bracket makes node n of these words
+unfoldable pub closeAt : List ℕ → ℕ → List ℕ → ℕ → ℕ → NodeWords → Stepped
+closeAt s at w n room y =
     cond (eqb (byteAt s at) (code ")"))
-    (cond (leb room n)
-    (record { step = Stop Nodes at; words = w })
-    (record { step = Made (at + 1) (n + 1) n; words = store w n kind x a b }))
-    (record { step = Stop Shape at; words = w })
-
-abbrev pub lastOf : ℕ → List ℕ → Step → Paired
-lastOf a w (Stop f p) = record { pair = Halt f p; words = w }
-lastOf a w (Made p m b) = record { pair = Two p m a b; words = w }
-
--- the second argument, after the first
-abbrev pub secondOf : (ℕ → List ℕ → ℕ → Stepped) → List ℕ → List ℕ → Step → Paired
-secondOf form s w (Stop f p) = record { pair = Halt f p; words = w }
-secondOf form s w (Made p m a) =
-    cond (eqb (byteAt s p) (code " "))
-    (lastOf a (form (p + 1) w m .words) (form (p + 1) w m .step))
-    (record { pair = Halt Shape p; words = w })
-
--- two forms, each after a space
-unfoldable pub argsWith : (ℕ → List ℕ → ℕ → Stepped) → List ℕ → ℕ → List ℕ → ℕ → Paired
-argsWith form s at w n =
-    cond (eqb (byteAt s at) (code " "))
-    (secondOf form s (form (at + 1) w n .words) (form (at + 1) w n .step))
-    (record { pair = Halt Shape at; words = w })
+    (cond (leb room n) (stops Nodes at w) (record { step = Made (at + 1) (n + 1) n; words = putWords w n y }))
+    (stops Shape at w)
 
 -- what does not change while a line is read; `lines` has the node that each earlier line means
 pub record Setting : Type 0 where
@@ -168,16 +145,43 @@ pub record Setting : Type 0 where
 abbrev pub setting : List ℕ → List ℕ → Limits → Setting
 setting s lines g = record { text = s; lines = lines; limits = g }
 
-abbrev pub closedOf : Setting → ℕ → ℕ → List ℕ → Pair → Stepped
-closedOf g kind x w (Halt f p) = record { step = Stop f p; words = w }
-closedOf g kind x w (Two p m a b) = closeAt (g .text) p w m (g .limits .room) kind x a b
+-- ---- the children of an inner form
+-- those read so far, with 0 in the places left
+abbrev pub noChildren : Children
+noChildren = childrenWords []
+
+abbrev pub withChild : Children → ℕ → Children
+withChild cs a = record { count = cs .count + 1; nodes = set (cs .nodes) (cs .count) a }
+
+abbrev pub operatorWords : Operator → Children → NodeWords
+operatorWords (Decision x) cs = record { kind = decisionNumber; variable = x; children = cs }
+operatorWords Conjunction cs = record { kind = conjunctionNumber; variable = 0; children = cs }
+
+-- the closing bracket, after two forms at least
+unfoldable pub endAt : Setting → Operator → ℕ → List ℕ → ℕ → Children → Stepped
+endAt g op at w n cs =
+    cond (ltb (cs .count) leastForms) (stops Shape at w)
+    (closeAt (g .text) at w n (g .limits .room) (operatorWords op cs))
+
+-- a form was read: `go` reads what follows it
+abbrev pub formThen : (ℕ → List ℕ → ℕ → ℕ → Stepped) → List ℕ → Step → Stepped
+formThen go w (Stop f p) = stops f p w
+formThen go w (Made p m a) = go p w m a
+
+-- at most k forms more, each after a space, and the closing bracket
+unfoldable pub restWith : ℕ → (ℕ → List ℕ → ℕ → Stepped) → Setting → Operator → ℕ → List ℕ → ℕ → Children → Stepped
+restWith zero form g op at w n cs = endAt g op at w n cs
+restWith (suc k) form g op at w n cs =
+    let r : Stepped = form (at + 1) w n in
+    cond (eqb (byteAt (g .text) at) (code " "))
+    (formThen (λ p v m a. restWith k form g op p v m (withChild cs a)) (r .words) (r .step))
+    (endAt g op at w n cs)
 
 abbrev pub openedOf : (ℕ → List ℕ → ℕ → Stepped) → Setting → List ℕ → ℕ → Opening → Stepped
-openedOf form g w n (Broken f p) = record { step = Stop f p; words = w }
-openedOf form g w n (Leaf kind x p) = closeAt (g .text) p w n (g .limits .room) kind x 0 0
+openedOf form g w n (Broken f p) = stops f p w
+openedOf form g w n (Leaf kind x p) = closeAt (g .text) p w n (g .limits .room) (encoded kind x [])
 openedOf form g w n (Line k p) = record { step = Made (p + 1) n (getD (g .lines) k 0); words = w }
-openedOf form g w n (Inner kind x p) =
-    closedOf g kind x (argsWith form (g .text) p w n .words) (argsWith form (g .text) p w n .pair)
+openedOf form g w n (Inner op p) = restWith (mostForms op) form g op p w n noChildren
 
 -- where no more brackets may open: 14 at a bracket
 abbrev pub deepFault : List ℕ → ℕ → Fault
@@ -185,12 +189,13 @@ deepFault s at = cond (eqb (byteAt s at) (code "(")) Depth Shape
 
 -- a form after n nodes, in which d brackets may be open in one another
 unfoldable pub formAt : ℕ → Setting → Role → ℕ → List ℕ → ℕ → Stepped
-formAt zero g role at w n = record { step = Stop (deepFault (g .text) at) at; words = w }
+formAt zero g role at w n = stops (deepFault (g .text) at) at w
 formAt (suc d) g role at w n =
     openedOf (formAt d g Argument) g w n (headAt (g .text) at role (g .limits))
 
-unfoldable pub argsAt : ℕ → Setting → ℕ → List ℕ → ℕ → Paired
-argsAt d g at w n = argsWith (formAt d g Argument) (g .text) at w n
+-- the rest of an inner form, after the children cs
+unfoldable pub restAt : ℕ → Setting → Operator → ℕ → List ℕ → ℕ → Children → Stepped
+restAt d g op at w n cs = restWith (mostForms op - cs .count) (formAt d g Argument) g op at w n cs
 
 -- ---- the whole text
 -- the answer, N and n, with every lent word
@@ -232,7 +237,7 @@ headerAt s = headerOf s (matchAt s 0 (ascii "(circuit "))
 
 -- how many nodes there is room for in m lent words
 abbrev pub roomOf : ℕ → ℕ
-roomOf m = cond (ltb (m / nodeWords) maxNodes) (m / nodeWords) maxNodes
+roomOf m = cond (ltb (roomIn m) maxNodes) (roomIn m) maxNodes
 
 -- a refusal leaves every word 0
 abbrev pub settled : ℕ → List ℕ → Outcome (ℕ × ℕ) → ReadOut

@@ -7,22 +7,41 @@ use mathlib.Core.Logic.{_≢_}
 use mathlib.Core.Path.{_≡_}
 use lib.Dec.{ltb}
 use lib.ListN.{length, getD}
-use Rattle.table.specs.Node.{maxVariables, falseNumber, trueNumber, positiveNumber, negativeNumber, decisionNumber, conjunctionNumber}
+use Rattle.table.specs.Layout.{maxChildren, wordList}
+use Rattle.table.specs.Node.{encode, maxVariables, Node, constant, literal, decision, conjunction}
 use Rattle.text.specs.Ascii.{ascii}
 use Rattle.text.specs.Limits.{maxBytes, maxDepth}
+use Rattle.text.specs.declared.head.Operator.{Operator}
+use Rattle.text.specs.declared.head.Operator.the-variants.{Decision, Conjunction}
 
 -- ---- trees
-pub data Form : Type 0 where
-  -- `(false)` or `(true)`
-  constantForm : Bool → Form
-  -- `(yes V)`, or `(no V)` where the sign is false
-  literalForm : Bool → ℕ → Form
-  -- `(pick V F F)`
-  decisionForm : ℕ → Form → Form → Form
-  -- `(both F F)`
-  conjunctionForm : Form → Form → Form
-  -- `(line K)`
-  lineForm : ℕ → Form
+mutual
+  pub data Form : Type 0 where
+    -- `(false)` or `(true)`
+    constantForm : Bool → Form
+    -- `(yes V)`, or `(no V)` where the sign is false
+    literalForm : Bool → ℕ → Form
+    -- `(pick V F F)` or `(both F F ...)`
+    innerForm : Operator → Forms → Form
+    -- `(line K)`
+    lineForm : ℕ → Form
+
+  -- the forms in an inner form
+  pub data Forms : Type 0 where
+    none : Forms
+    more : Form → Forms → Forms
+
+abbrev pub count : Forms → ℕ
+count none = 0
+count (more f fs) = suc (count fs)
+
+-- how many forms an operator takes, at least and at most
+abbrev pub leastForms : ℕ
+leastForms = 2
+
+abbrev pub mostForms : Operator → ℕ
+mostForms (Decision x) = 2
+mostForms Conjunction = maxChildren
 
 -- a whole text: the N of its header, and its lines
 pub record Tree : Type 0 where
@@ -38,15 +57,24 @@ digitText unit v = cond (ltb v unit) [] ((code "0" + v / unit % 10) ∷ [])
 unfoldable pub decimal : ℕ → List ℕ
 decimal v = digitText 1000 v ++ digitText 100 v ++ digitText 10 v ++ ((code "0" + v % 10) ∷ [])
 
-unfoldable pub printForm : Form → List ℕ
-printForm (constantForm false) = ascii "(false)"
-printForm (constantForm true) = ascii "(true)"
-printForm (literalForm true x) = ascii "(yes " ++ decimal x ++ ascii ")"
-printForm (literalForm false x) = ascii "(no " ++ decimal x ++ ascii ")"
-printForm (decisionForm x f g) =
-    ascii "(pick " ++ decimal x ++ ascii " " ++ printForm f ++ ascii " " ++ printForm g ++ ascii ")"
-printForm (conjunctionForm f g) = ascii "(both " ++ printForm f ++ ascii " " ++ printForm g ++ ascii ")"
-printForm (lineForm k) = ascii "(line " ++ decimal k ++ ascii ")"
+-- an inner form up to its first child
+abbrev pub printOperator : Operator → List ℕ
+printOperator (Decision x) = ascii "(pick " ++ decimal x
+printOperator Conjunction = ascii "(both"
+
+unfoldable mutual
+  pub printForm : Form → List ℕ
+  printForm (constantForm false) = ascii "(false)"
+  printForm (constantForm true) = ascii "(true)"
+  printForm (literalForm true x) = ascii "(yes " ++ decimal x ++ ascii ")"
+  printForm (literalForm false x) = ascii "(no " ++ decimal x ++ ascii ")"
+  printForm (innerForm op fs) = printOperator op ++ printForms fs ++ ascii ")"
+  printForm (lineForm k) = ascii "(line " ++ decimal k ++ ascii ")"
+
+  -- each form after a space
+  pub printForms : Forms → List ℕ
+  printForms none = []
+  printForms (more f fs) = ascii " " ++ printForm f ++ printForms fs
 
 unfoldable pub printLines : List Form → List ℕ
 printLines [] = []
@@ -57,26 +85,33 @@ unfoldable pub print : Tree → List ℕ
 print t = ascii "(circuit " ++ decimal (t .variables) ++ ascii ")\n" ++ printLines (t .lines)
 
 -- ---- which trees are texts of the grammar
--- each variable in the form is below N, and each line number below k
-abbrev pub Below : ℕ → ℕ → Form → Type 0
-Below N k (constantForm v) = Unit
-Below N k (literalForm v x) = x < N
-Below N k (decisionForm x f g) = (x < N) × Below N k f × Below N k g
-Below N k (conjunctionForm f g) = Below N k f × Below N k g
-Below N k (lineForm j) = j < k
+abbrev pub OperatorFits : ℕ → Operator → Type 0
+OperatorFits N (Decision x) = x < N
+OperatorFits N Conjunction = Unit
+
+-- each variable in the form is below N, each line number below k, and each inner form has as many forms as its operator takes
+abbrev mutual
+  pub FormFits : ℕ → ℕ → Form → Type 0
+  FormFits N k (constantForm v) = Unit
+  FormFits N k (literalForm v x) = x < N
+  FormFits N k (innerForm op fs) = OperatorFits N op × (leastForms ≤ count fs) × (count fs ≤ mostForms op) × FormsFit N k fs
+  FormFits N k (lineForm j) = j < k
+
+  pub FormsFit : ℕ → ℕ → Forms → Type 0
+  FormsFit N k none = Unit
+  FormsFit N k (more f fs) = FormFits N k f × FormsFit N k fs
 
 -- a line's own form is not `line`
 abbrev pub Own : Form → Type 0
 Own (constantForm v) = Unit
 Own (literalForm v x) = Unit
-Own (decisionForm x f g) = Unit
-Own (conjunctionForm f g) = Unit
+Own (innerForm op fs) = Unit
 Own (lineForm k) = ⊥
 
--- all numbers have at most four digits
+-- all numbers have at most four digits, and each operator has as many forms as it takes
 abbrev pub GrammaticalLines : List Form → Type 0
 GrammaticalLines [] = Unit
-GrammaticalLines (f ∷ fs) = Own f × Below 10000 10000 f × GrammaticalLines fs
+GrammaticalLines (f ∷ fs) = Own f × FormFits 10000 10000 f × GrammaticalLines fs
 
 pub record Grammatical (t : Tree) : Type 0 where
   pub header : t .variables < 10000
@@ -94,25 +129,35 @@ pub record Compiled : Type 0 where
   pub nodes : ℕ
   pub node : ℕ
 
+-- what the forms in an inner form make, with the node that each means
+pub record CompiledForms : Type 0 where
+  pub words : List ℕ
+  pub nodes : ℕ
+  pub children : List ℕ
+
 -- the last node, number n, after the words w of those before it
-abbrev pub makes : List ℕ → ℕ → ℕ → ℕ → ℕ → ℕ → Compiled
-makes w n kind x a b = record { words = w ++ (kind ∷ x ∷ a ∷ b ∷ []); nodes = suc n; node = n }
+abbrev pub makes : List ℕ → ℕ → Node → Compiled
+makes w n y = record { words = w ++ wordList (encode y); nodes = suc n; node = n }
+
+abbrev pub operatorNode : Operator → List ℕ → Node
+operatorNode (Decision x) cs = decision x (getD cs 0 0) (getD cs 1 0)
+operatorNode Conjunction cs = conjunction cs
 
 -- the nodes of a form after n others, its children's first; `earlier` has the node that each earlier line means
-unfoldable pub compileForm : List ℕ → ℕ → Form → Compiled
-compileForm earlier n (constantForm false) = makes [] n falseNumber 0 0 0
-compileForm earlier n (constantForm true) = makes [] n trueNumber 0 0 0
-compileForm earlier n (literalForm true x) = makes [] n positiveNumber x 0 0
-compileForm earlier n (literalForm false x) = makes [] n negativeNumber x 0 0
-compileForm earlier n (decisionForm x f g) =
-    let a : Compiled = compileForm earlier n f in
-    let b : Compiled = compileForm earlier (a .nodes) g in
-    makes (a .words ++ b .words) (b .nodes) decisionNumber x (a .node) (b .node)
-compileForm earlier n (conjunctionForm f g) =
-    let a : Compiled = compileForm earlier n f in
-    let b : Compiled = compileForm earlier (a .nodes) g in
-    makes (a .words ++ b .words) (b .nodes) conjunctionNumber 0 (a .node) (b .node)
-compileForm earlier n (lineForm k) = record { words = []; nodes = n; node = getD earlier k 0 }
+unfoldable mutual
+  pub compileForm : List ℕ → ℕ → Form → Compiled
+  compileForm earlier n (constantForm v) = makes [] n (constant v)
+  compileForm earlier n (literalForm v x) = makes [] n (literal v x)
+  compileForm earlier n (innerForm op fs) =
+      let a : CompiledForms = compileForms earlier n fs in makes (a .words) (a .nodes) (operatorNode op (a .children))
+  compileForm earlier n (lineForm k) = record { words = []; nodes = n; node = getD earlier k 0 }
+
+  pub compileForms : List ℕ → ℕ → Forms → CompiledForms
+  compileForms earlier n none = record { words = []; nodes = n; children = [] }
+  compileForms earlier n (more f fs) =
+      let a : Compiled = compileForm earlier n f in
+      let b : CompiledForms = compileForms earlier (a .nodes) fs in
+      record { words = a .words ++ b .words; nodes = b .nodes; children = a .node ∷ b .children }
 
 unfoldable pub compileLines : List ℕ → ℕ → List Form → Compiled
 compileLines earlier n [] = record { words = []; nodes = n; node = 0 }
@@ -126,17 +171,21 @@ compile t = compileLines [] 0 (t .lines)
 
 -- ---- the limits
 -- how many brackets are open in one another, at most
-abbrev pub depth : Form → ℕ
-depth (constantForm v) = 1
-depth (literalForm v x) = 1
-depth (decisionForm x f g) = suc (max (depth f) (depth g))
-depth (conjunctionForm f g) = suc (max (depth f) (depth g))
-depth (lineForm k) = 1
+abbrev mutual
+  pub depth : Form → ℕ
+  depth (constantForm v) = 1
+  depth (literalForm v x) = 1
+  depth (innerForm op fs) = suc (depths fs)
+  depth (lineForm k) = 1
+
+  pub depths : Forms → ℕ
+  depths none = 0
+  depths (more f fs) = max (depth f) (depths fs)
 
 -- lines from line k on: each V below N, each K an earlier line, brackets not too deep
 abbrev pub LinesWithin : ℕ → ℕ → List Form → Type 0
 LinesWithin N k [] = Unit
-LinesWithin N k (f ∷ fs) = Below N k f × (depth f ≤ maxDepth) × LinesWithin N (suc k) fs
+LinesWithin N k (f ∷ fs) = FormFits N k f × (depth f ≤ maxDepth) × LinesWithin N (suc k) fs
 
 pub record Within (room : ℕ) (t : Tree) : Type 0 where
   pub bytes : length (print t) ≤ maxBytes

@@ -27,8 +27,8 @@ lineWord OwnForm = []
 lineWord Argument = Line ∷ []
 
 -- the words that may stand there
-abbrev pub wordsFor : Role → List Word
-wordsFor role = False ∷ True ∷ Yes ∷ No ∷ Pick ∷ Both ∷ lineWord role
+abbrev pub headWords : Role → List Word
+headWords role = False ∷ True ∷ Yes ∷ No ∷ Pick ∷ Both ∷ lineWord role
 
 -- a word that is matched, or else what is known of the others; where none is, the furthest place
 abbrev pub orWord : Word → Matched → Spelled → Spelled

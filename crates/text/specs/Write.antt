@@ -1,21 +1,27 @@
 -- The writing of a table as circuit text: node i as line i, each child as `(line K)`.
 use Prim.Native.Nat.{ℕ}
 use mathlib.Core.Bool.{false, cond}
-use mathlib.Core.List.{List, _++_, map}
+use mathlib.Core.List.{List, [], _∷_, _++_, map}
 use lib.Dec.{ltb}
-use lib.ListN.{length, getD, drop}
+use lib.ListN.{length, drop}
 use Rattle.masks.specs.Numbers.{below}
 use Rattle.table.specs.Node.{nodeAt, Node, constant, literal, decision, conjunction, unknown}
 use Rattle.table.specs.Outcome.{Outcome, answered, refused}
 use Rattle.table.specs.Words.{checkWords}
-use Rattle.text.specs.Syntax.{print, Tree, Form, constantForm, literalForm, decisionForm, conjunctionForm, lineForm}
+use Rattle.text.specs.Syntax.{print, Tree, Form, Forms, constantForm, literalForm, innerForm, lineForm, none, more}
+use Rattle.text.specs.declared.head.Operator.the-variants.{Decision, Conjunction}
+
+-- children, each as the line of its node
+abbrev pub lineForms : List ℕ → Forms
+lineForms [] = none
+lineForms (c ∷ cs) = more (lineForm c) (lineForms cs)
 
 -- a node's form
 abbrev pub nodeForm : Node → Form
 nodeForm (constant v) = constantForm v
 nodeForm (literal v x) = literalForm v x
-nodeForm (decision x a b) = decisionForm x (lineForm a) (lineForm b)
-nodeForm (conjunction cs) = conjunctionForm (lineForm (getD cs 0 0)) (lineForm (getD cs 1 0))
+nodeForm (decision x a b) = innerForm (Decision x) (lineForms (a ∷ b ∷ []))
+nodeForm (conjunction cs) = innerForm Conjunction (lineForms cs)
 -- never written: 22 comes first
 nodeForm unknown = constantForm false
 

@@ -4,7 +4,7 @@ ghost use Rattle.text.specs.Answers.{faultNumber};
 
 // Why a circuit text is refused.
 pub enum Fault {
-    // 10: over 40,000 bytes
+    // 10: over 110,000 bytes
     Length,
     // 11: wrong shape
     Shape,
@@ -55,13 +55,6 @@ pub enum Step {
     Stop(Fault, usize),
     // the place past the form, the number of nodes now, and the node that the form means
     Made(usize, u32, u32),
-}
-
-// After two forms were read.
-pub enum Pair {
-    Halt(Fault, usize),
-    // the place past both forms, the number of nodes now, and the two nodes
-    Two(usize, u32, u32, u32),
 }
 
 // What stands next in an assignment line.

@@ -4,7 +4,7 @@ ghost use Prim.Native.Nat.{_+_, _≤_, _<_};
 ghost use lib.ListN.{length};
 ghost use Rattle.text.specs.Places.{MatchedRuns, RangedRuns, SpelledRuns, OpeningRuns};
 ghost use Rattle.text.specs.Read.{matchAt, rangedAt, wordAt, literalAt, tailAt, headAt};
-ghost use Rattle.text.specs.Words.{lineWord, wordsFor, orWord};
+ghost use Rattle.text.specs.Words.{lineWord, headWords, orWord};
 use super::answer::Fault;
 use super::number::CLOSE;
 use super::number::Numeral;
@@ -12,8 +12,6 @@ use super::number::OPEN;
 use super::number::SPACE;
 use super::number::byte_at;
 use super::number::number;
-use table::CONJUNCTION;
-use table::DECISION;
 use table::FALSE;
 use table::NEGATIVE;
 use table::POSITIVE;
@@ -127,7 +125,7 @@ fn line_word(s: &[u8], at: usize, role: Role) -> Spelled
 // The word of a form.
 fn word_at(s: &[u8], at: usize, role: Role) -> Spelled
     requires { ⌜ at ≤ length (now s) ⌝ }
-    ensures { λ r. ⌜ (r ≡ wordAt (now (s .entry)) at (wordsFor role)) × SpelledRuns (now (s .entry)) at r ⌝ }
+    ensures { λ r. ⌜ (r ≡ wordAt (now (s .entry)) at (headWords role)) × SpelledRuns (now (s .entry)) at r ⌝ }
 {
     let line = line_word(s, at, role);
     let both = or_word(s, at, b"both", Word::Both, line);
@@ -148,12 +146,20 @@ pub struct Limits {
     pub earlier: u32,
 }
 
+// What an inner form makes of the forms in it.
+pub enum Operator {
+    // `pick`, with its variable
+    Decision(u32),
+    // `both`
+    Conjunction,
+}
+
 pub enum Opening {
     Broken(Fault, usize),
     // kind and variable of a form with no child
     Leaf(u32, u32, usize),
-    // kind and variable of a form with two children to come
-    Inner(u32, u32, usize),
+    // a form with children to come
+    Inner(Operator, usize),
     // the number of an earlier line
     Line(u32, usize),
 }
@@ -181,9 +187,9 @@ fn tail(s: &[u8], at: usize, word: Word, limits: Limits) -> Opening
         Word::No => literal_at(s, at, NEGATIVE, limits),
         Word::Pick => match ranged(s, at, 0, limits.variables, SPACE, Fault::Range) {
             InRange::Unfit(f, p) => Opening::Broken(f, p),
-            InRange::Inside(v, p) => Opening::Inner(DECISION, v, p),
+            InRange::Inside(v, p) => Opening::Inner(Operator::Decision(v), p),
         },
-        Word::Both => Opening::Inner(CONJUNCTION, 0, at),
+        Word::Both => Opening::Inner(Operator::Conjunction, at),
         Word::Line => match ranged(s, at, 0, limits.earlier, CLOSE, Fault::Reference) {
             InRange::Unfit(f, p) => Opening::Broken(f, p),
             InRange::Inside(v, p) => Opening::Line(v, p),

@@ -2,7 +2,7 @@
 use table::MAX_NODES;
 
 // How many bytes a text may have.
-pub const MAX_BYTES: usize = 40000;
+pub const MAX_BYTES: usize = 110000;
 
 // How many brackets may be open in one another.
 pub const MAX_DEPTH: u32 = 16;

@@ -3,6 +3,7 @@ use console::print;
 use output::refusal_line;
 use output::refusals::fault_line;
 use output::term_line;
+use table::layout::NODE_WORDS;
 use terms::Term;
 use text::answer::AssignmentReading;
 use text::answer::Fault;
@@ -11,6 +12,9 @@ use text_assignment::assignment::read_assignment;
 use text_reader::reader::read;
 use text_writer::writer::Written;
 use text_writer::writer::write;
+
+// How many words most texts are read into: enough for 40 nodes.
+const WORDS: usize = NODE_WORDS * 40;
 
 // A refusal with its place.
 fn print_refusal(number: u32, place: usize) {
@@ -44,10 +48,10 @@ fn read_into(text: &[u8], words: &mut [u32]) {
     }
 }
 
-// Reads a circuit text into so many words, at most 160.
+// Reads a circuit text into so many words, at most as many as there are.
 fn circuit(text: &[u8], room: usize) {
-    let mut words = [0u32; 160];
-    if room <= 160 {
+    let mut words = [0u32; WORDS];
+    if room <= WORDS {
         read_into(text, &mut words[..room]);
     }
 }
@@ -76,110 +80,171 @@ fn assignment(line: &[u8], variables: u32) {
 fn small_circuits() {
     circuit(
         b"(circuit 3)\n(pick 0 (no 1) (pick 1 (yes 2) (true)))\n",
-        160,
+        WORDS,
     );
-    circuit(b"(circuit 1)\n(false)\n", 160);
-    circuit(b"(circuit 1)\n(true)\n", 160);
-    circuit(b"(circuit 1)\n(pick 0 (true) (true))\n", 160);
-    circuit(b"(circuit 2)\n(both (yes 0) (no 1))\n", 160);
-    circuit(b"(circuit 1)\n(both (yes 0) (no 0))\n", 160);
-    circuit(b"(circuit 1)\n(pick 0 (yes 0) (true))\n", 160);
-    circuit(b"(circuit 1)\n(pick 0 (false) (false))\n", 160);
-    circuit(b"(circuit 1)\n(yes 0)\n(no 0)\n", 160);
+    circuit(b"(circuit 1)\n(false)\n", WORDS);
+    circuit(b"(circuit 1)\n(true)\n", WORDS);
+    circuit(b"(circuit 1)\n(pick 0 (true) (true))\n", WORDS);
+    circuit(b"(circuit 2)\n(both (yes 0) (no 1))\n", WORDS);
+    circuit(b"(circuit 1)\n(both (yes 0) (no 0))\n", WORDS);
+    circuit(b"(circuit 1)\n(pick 0 (yes 0) (true))\n", WORDS);
+    circuit(b"(circuit 1)\n(pick 0 (false) (false))\n", WORDS);
+    circuit(b"(circuit 1)\n(yes 0)\n(no 0)\n", WORDS);
 }
 
 // P10 to P12.
 fn example_one() {
-    circuit(b"(circuit 4)\n(pick 3 (true) (yes 2))\n", 160);
+    circuit(b"(circuit 4)\n(pick 3 (true) (yes 2))\n", WORDS);
     circuit(
         b"(circuit 4)\n(pick 0 (pick 3 (true) (yes 2)) (no 2))\n",
-        160,
+        WORDS,
     );
     circuit(
         b"(circuit 4)\n(pick 1 (pick 0 (pick 3 (true) (yes 2)) (no 2)) (both (no 2) (no 3)))\n",
-        160,
+        WORDS,
     );
 }
 
 // Shared lines, nested forms, the largest N.
 fn shared_lines() {
-    circuit(b"(circuit 2)\n(yes 0)\n(both (line 0) (yes 1))\n", 160);
-    circuit(b"(circuit 1)\n(true)\n(pick 0 (line 0) (line 0))\n", 160);
+    circuit(b"(circuit 2)\n(yes 0)\n(both (line 0) (yes 1))\n", WORDS);
+    circuit(b"(circuit 1)\n(true)\n(pick 0 (line 0) (line 0))\n", WORDS);
     circuit(
         b"(circuit 3)\n(both (yes 0) (no 1))\n(pick 2 (line 0) (false))\n(both (line 1) (line 0))\n",
-        160,
+        WORDS,
     );
-    circuit(b"(circuit 40)\n(no 39)\n", 160);
+    circuit(b"(circuit 40)\n(no 39)\n", WORDS);
     circuit(
         b"(circuit 2)\n(both (both (true) (false)) (both (no 0) (yes 1)))\n",
-        160,
+        WORDS,
+    );
+}
+
+// Conjunctions of three, of eight, of shared lines inside another form, and of one line eight times.
+fn wide_conjunctions() {
+    circuit(b"(circuit 3)\n(both (yes 0) (no 1) (yes 2))\n", WORDS);
+    circuit(
+        b"(circuit 8)\n(both (yes 0) (no 1) (yes 2) (no 3) (yes 4) (no 5) (yes 6) (no 7))\n",
+        WORDS,
+    );
+    circuit(
+        b"(circuit 5)\n(both (yes 0) (true) (no 1))\n(true)\n\
+            (pick 4 (line 0) (both (line 1) (line 0) (yes 2) (line 1)))\n",
+        WORDS,
+    );
+    circuit(
+        b"(circuit 1)\n(true)\n\
+            (both (line 0) (line 0) (line 0) (line 0) (line 0) (line 0) (line 0) (line 0))\n",
+        WORDS,
     );
 }
 
 // 11 at the end: texts that are cut.
 fn cut_short() {
-    circuit(b"", 160);
-    circuit(b"(", 160);
-    circuit(b"(circuit", 160);
-    circuit(b"(circuit ", 160);
-    circuit(b"(circuit 3", 160);
-    circuit(b"(circuit 3)", 160);
-    circuit(b"(circuit 3)\n", 160);
-    circuit(b"(circuit 3)\n(", 160);
-    circuit(b"(circuit 3)\n(pick 0 (no 1)", 160);
-    circuit(b"(circuit 1)\n(true)", 160);
-    circuit(b"(circuit 1)\n(true)\n(", 160);
+    circuit(b"", WORDS);
+    circuit(b"(", WORDS);
+    circuit(b"(circuit", WORDS);
+    circuit(b"(circuit ", WORDS);
+    circuit(b"(circuit 3", WORDS);
+    circuit(b"(circuit 3)", WORDS);
+    circuit(b"(circuit 3)\n", WORDS);
+    circuit(b"(circuit 3)\n(", WORDS);
+    circuit(b"(circuit 3)\n(pick 0 (no 1)", WORDS);
+    circuit(b"(circuit 1)\n(true)", WORDS);
+    circuit(b"(circuit 1)\n(true)\n(", WORDS);
 }
 
 // 11 in the header and after the last line.
 fn misshapen_lines() {
-    circuit(b"(Circuit 1)\n(true)\n", 160);
-    circuit(b"(circuit\t1)\n(true)\n", 160);
-    circuit(b"(circuit  1)\n(true)\n", 160);
-    circuit(b"(circuit -1)\n(true)\n", 160);
-    circuit(b"(circuit 07)\n(true)\n", 160);
-    circuit(b"(circuit 12345)\n(true)\n", 160);
-    circuit(b"(circuit 1)\r\n(true)\n", 160);
-    circuit(b"(circuit 1)\n(true))\n", 160);
-    circuit(b"(circuit 1)\n(true)\n\n", 160);
-    circuit(b"(circuit 1)\n(true)\n ", 160);
+    circuit(b"(Circuit 1)\n(true)\n", WORDS);
+    circuit(b"(circuit\t1)\n(true)\n", WORDS);
+    circuit(b"(circuit  1)\n(true)\n", WORDS);
+    circuit(b"(circuit -1)\n(true)\n", WORDS);
+    circuit(b"(circuit 07)\n(true)\n", WORDS);
+    circuit(b"(circuit 12345)\n(true)\n", WORDS);
+    circuit(b"(circuit 1)\r\n(true)\n", WORDS);
+    circuit(b"(circuit 1)\n(true))\n", WORDS);
+    circuit(b"(circuit 1)\n(true)\n\n", WORDS);
+    circuit(b"(circuit 1)\n(true)\n ", WORDS);
 }
 
 // 11 in a form.
 fn misshapen_forms() {
-    circuit(b"(circuit 1)\n\xc8", 160);
-    circuit(b"(circuit 1)\n(true\xc8)\n", 160);
-    circuit(b"(circuit 1)\n(maybe)\n", 160);
-    circuit(b"(circuit 1)\n(yes\t0)\n", 160);
-    circuit(b"(circuit 1)\n(yes )\n", 160);
-    circuit(b"(circuit 1)\n(yes 01)\n", 160);
-    circuit(b"(circuit 1)\n(pick 0  (true) (true))\n", 160);
-    circuit(b"(circuit 1)\n(both (true))\n", 160);
-    circuit(b"(circuit 1)\n(line 0)\n", 160);
-    circuit(b"(circuit 1)\n(true)\n(line 0)\n", 160);
+    circuit(b"(circuit 1)\n\xc8", WORDS);
+    circuit(b"(circuit 1)\n(true\xc8)\n", WORDS);
+    circuit(b"(circuit 1)\n(maybe)\n", WORDS);
+    circuit(b"(circuit 1)\n(yes\t0)\n", WORDS);
+    circuit(b"(circuit 1)\n(yes )\n", WORDS);
+    circuit(b"(circuit 1)\n(yes 01)\n", WORDS);
+    circuit(b"(circuit 1)\n(pick 0  (true) (true))\n", WORDS);
+    circuit(b"(circuit 1)\n(both (true))\n", WORDS);
+    circuit(b"(circuit 1)\n(line 0)\n", WORDS);
+    circuit(b"(circuit 1)\n(true)\n(line 0)\n", WORDS);
+}
+
+// 11 in a conjunction of none or one, of nine, and after eight.
+fn conjunctions_of_others() {
+    circuit(b"(circuit 1)\n(both)\n", WORDS);
+    circuit(b"(circuit 1)\n(both (true)", WORDS);
+    circuit(b"(circuit 1)\n(both (true) (true)", WORDS);
+    circuit(
+        b"(circuit 1)\n(both (true) (true) (true) (true) (true) (true) (true) (true) (true))\n",
+        WORDS,
+    );
+    circuit(
+        b"(circuit 1)\n(both (true) (true) (true) (true) (true) (true) (true) (true) )\n",
+        WORDS,
+    );
+}
+
+// 11 in a decision of one and of three, and between the second form and the third.
+fn third_forms() {
+    circuit(b"(circuit 1)\n(pick 0 (true))\n", WORDS);
+    circuit(b"(circuit 1)\n(pick 0 (true) (true) (true))\n", WORDS);
+    circuit(b"(circuit 1)\n(both (true) (true)  (true))\n", WORDS);
+    circuit(b"(circuit 1)\n(both (true) (true)(true))\n", WORDS);
+    circuit(b"(circuit 1)\n(both (true) (true) )\n", WORDS);
+}
+
+// 11 to 14 inside the third form.
+fn faults_in_third_forms() {
+    circuit(b"(circuit 1)\n(both (true) (true) (maybe))\n", WORDS);
+    circuit(b"(circuit 2)\n(both (yes 0) (yes 1) (yes 2))\n", WORDS);
+    circuit(
+        b"(circuit 1)\n(true)\n(both (line 0) (true) (line 1))\n",
+        WORDS,
+    );
+    circuit(
+        b"(circuit 1)\n(both (both (both (both (both (both (both (both (both (both (both (both (both (both \
+            (both (true) (true) (both (",
+        WORDS,
+    );
 }
 
 // 12, and the bounds that are still allowed.
 fn ranges() {
-    circuit(b"(circuit 0)\n(true)\n", 160);
-    circuit(b"(circuit 41)\n(true)\n", 160);
-    circuit(b"(circuit 9999)\n(true)\n", 160);
-    circuit(b"(circuit 1)\n(yes 0)\n", 160);
-    circuit(b"(circuit 1)\n(yes 1)\n", 160);
-    circuit(b"(circuit 40)\n(no 40)\n", 160);
-    circuit(b"(circuit 2)\n(pick 2 (true) (false))\n", 160);
-    circuit(b"(circuit 2)\n(both (yes 0) (no 7))\n", 160);
+    circuit(b"(circuit 0)\n(true)\n", WORDS);
+    circuit(b"(circuit 41)\n(true)\n", WORDS);
+    circuit(b"(circuit 9999)\n(true)\n", WORDS);
+    circuit(b"(circuit 1)\n(yes 0)\n", WORDS);
+    circuit(b"(circuit 1)\n(yes 1)\n", WORDS);
+    circuit(b"(circuit 40)\n(no 40)\n", WORDS);
+    circuit(b"(circuit 2)\n(pick 2 (true) (false))\n", WORDS);
+    circuit(b"(circuit 2)\n(both (yes 0) (no 7))\n", WORDS);
 }
 
 // 13: the own line, a later one, the number of a node.
 fn references() {
-    circuit(b"(circuit 1)\n(both (line 0) (true))\n", 160);
-    circuit(b"(circuit 1)\n(true)\n(both (line 0) (line 1))\n", 160);
-    circuit(b"(circuit 1)\n(true)\n(pick 0 (line 9999) (true))\n", 160);
-    circuit(b"(circuit 1)\n(true)\n(pick 0 (line 10000) (true))\n", 160);
+    circuit(b"(circuit 1)\n(both (line 0) (true))\n", WORDS);
+    circuit(b"(circuit 1)\n(true)\n(both (line 0) (line 1))\n", WORDS);
+    circuit(b"(circuit 1)\n(true)\n(pick 0 (line 9999) (true))\n", WORDS);
+    circuit(
+        b"(circuit 1)\n(true)\n(pick 0 (line 10000) (true))\n",
+        WORDS,
+    );
     circuit(
         b"(circuit 2)\n(both (yes 0) (yes 1))\n(pick 0 (line 2) (true))\n",
-        160,
+        WORDS,
     );
 }
 
@@ -190,21 +255,21 @@ fn deep_right() {
             (both (true) (both (true) (both (true) (both (true) (both (true) (both (true) (both (true) \
             (both (true) (both (true) (both (true) (both (true) (both (true) (both (true) (both (true) \
             (both (true) (true))))))))))))))))\n",
-        160,
+        WORDS,
     );
     circuit(
         b"(circuit 1)\n\
             (both (true) (both (true) (both (true) (both (true) (both (true) (both (true) (both (true) \
             (both (true) (both (true) (both (true) (both (true) (both (true) (both (true) (both (true) \
             (both (true) (both (true) (true)))))))))))))))))\n",
-        160,
+        WORDS,
     );
     circuit(
         b"(circuit 1)\n\
             (both (true) (both (true) (both (true) (both (true) (both (true) (both (true) (both (true) \
             (both (true) (both (true) (both (true) (both (true) (both (true) (both (true) (both (true) \
             (both (true) (both )\n",
-        160,
+        WORDS,
     );
 }
 
@@ -212,40 +277,47 @@ fn deep_right() {
 fn deep_left() {
     circuit(
         b"(circuit 1)\n(both (both (both (both (both (both (both (both (both (both (both (both (both (both (both (both ",
-        160,
+        WORDS,
     );
     circuit(
         b"(circuit 1)\n(both (both (both (both (both (both (both (both (both (both (both (both (both (both (both (both (",
-        160,
+        WORDS,
     );
     circuit(
         b"(circuit 1)\n(true)\n(both (both (both (both (both (both (both (both (both (both (both (both (both (both (both (both (line 0)",
-        160,
+        WORDS,
     );
 }
 
-// 15: room for no node, for one, and for one too few.
+// 15: a node takes eleven words. Room for no node, for one, and for one too few.
 fn rooms() {
     circuit(b"(circuit 1)\n(true)\n", 0);
-    circuit(b"(circuit 1)\n(true)\n", 3);
-    circuit(b"(circuit 1)\n(true)\n", 4);
+    circuit(b"(circuit 1)\n(true)\n", 10);
+    circuit(b"(circuit 1)\n(true)\n", 11);
     circuit(
         b"(circuit 3)\n(pick 0 (no 1) (pick 1 (yes 2) (true)))\n",
-        20,
+        55,
     );
     circuit(
         b"(circuit 3)\n(pick 0 (no 1) (pick 1 (yes 2) (true)))\n",
-        19,
+        54,
     );
     circuit(
         b"(circuit 3)\n(pick 0 (no 1) (pick 1 (yes 2) (true)))\n",
-        12,
+        33,
     );
-    circuit(b"(circuit 1)\n(true)\n(pick 0 (line 0) (line 0))\n", 4);
+    circuit(b"(circuit 1)\n(true)\n(pick 0 (line 0) (line 0))\n", 21);
     circuit(
         b"(circuit 1)\n(both (true) (both (true) (both (true) (both (true) (both (true) (true))))))\n",
-        40,
+        110,
     );
+}
+
+// 15 in the third form of a conjunction and at its closing bracket, and room enough.
+fn rooms_of_three() {
+    circuit(b"(circuit 1)\n(both (true) (true) (true))\n", 32);
+    circuit(b"(circuit 1)\n(both (true) (true) (true))\n", 43);
+    circuit(b"(circuit 1)\n(both (true) (true) (true))\n", 44);
 }
 
 // 15 beside another fault, at one byte and at two.
@@ -258,23 +330,23 @@ fn rooms_and_faults() {
 
 // 11 and 12 in one text.
 fn shapes_and_ranges() {
-    circuit(b"(circuit 0)x(true)\n", 160);
-    circuit(b"(circuit 0x)\n(true)\n", 160);
-    circuit(b"(circuit 41", 160);
-    circuit(b"(circuit 41000)\n(true)\n", 160);
-    circuit(b"(circuit 1)x(yes 1)\n", 160);
-    circuit(b"(circuit 1)\n(yes 1)x", 160);
-    circuit(b"(circuit 1)\n(yes 1 )\n", 160);
-    circuit(b"(circuit 1)\n(yes 1", 160);
-    circuit(b"(circuit 1)\n(pick 5 (maybe) (true))\n", 160);
-    circuit(b"(circuit 1)\n(pick 5)\n", 160);
+    circuit(b"(circuit 0)x(true)\n", WORDS);
+    circuit(b"(circuit 0x)\n(true)\n", WORDS);
+    circuit(b"(circuit 41", WORDS);
+    circuit(b"(circuit 41000)\n(true)\n", WORDS);
+    circuit(b"(circuit 1)x(yes 1)\n", WORDS);
+    circuit(b"(circuit 1)\n(yes 1)x", WORDS);
+    circuit(b"(circuit 1)\n(yes 1 )\n", WORDS);
+    circuit(b"(circuit 1)\n(yes 1", WORDS);
+    circuit(b"(circuit 1)\n(pick 5 (maybe) (true))\n", WORDS);
+    circuit(b"(circuit 1)\n(pick 5)\n", WORDS);
 }
 
 // 10, and the longest text that is read.
 fn lengths() {
-    let long = [b'('; 40001];
-    circuit(&long, 160);
-    circuit(&long[..40000], 160);
+    let long = [b'('; 110001];
+    circuit(&long, WORDS);
+    circuit(&long[..110000], WORDS);
 }
 
 // Assignment lines that are read, and 21.
@@ -320,14 +392,19 @@ fn main() {
     small_circuits();
     example_one();
     shared_lines();
+    wide_conjunctions();
     cut_short();
     misshapen_lines();
     misshapen_forms();
+    conjunctions_of_others();
+    third_forms();
+    faults_in_third_forms();
     ranges();
     references();
     deep_right();
     deep_left();
     rooms();
+    rooms_of_three();
     rooms_and_faults();
     shapes_and_ranges();
     lengths();

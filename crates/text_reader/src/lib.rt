@@ -1,4 +1,5 @@
 // The reading of circuit text.
+mod children;
 mod form;
 mod held;
 mod lines;

@@ -1,14 +1,15 @@
 // The lines of a circuit text, after its header.
 ghost use mathlib.Core.Path.{_≡_};
-ghost use Prim.Native.Nat.{_*_, _≤_};
+ghost use Prim.Native.Nat.{_≤_};
 ghost use lib.ListN.{length, replicate};
-ghost use Rattle.table.specs.Node.{nodeWords, maxNodes};
+ghost use Rattle.table.specs.Layout.{wordsFor};
+ghost use Rattle.table.specs.Node.{maxNodes};
 ghost use Rattle.text.specs.Limits.{maxLines};
 ghost use Rattle.text.specs.Places.{ReadIs};
 ghost use Rattle.text.specs.Read.{linesAt, roomOf};
 use super::form::form;
 use table::MAX_NODES;
-use table::NODE_WORDS;
+use table::layout::room_in;
 use text::answer::Fault;
 use text::answer::Reading;
 use text::answer::Step;
@@ -22,9 +23,9 @@ use text::number::byte_at;
 
 // How many nodes there is room for in so many words.
 fn room_of(words: usize) -> u32
-    ensures { λ r. ⌜ (r ≡ roomOf words) × (r ≤ maxNodes) × (nodeWords * r ≤ words) ⌝ }
+    ensures { λ r. ⌜ (r ≡ roomOf words) × (r ≤ maxNodes) × (wordsFor r ≤ words) ⌝ }
 {
-    let q = words / NODE_WORDS;
+    let q = room_in(words);
     if q < (MAX_NODES as usize) {
         q as u32
     } else {

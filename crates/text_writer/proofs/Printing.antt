@@ -28,12 +28,7 @@ line-more w i =
     ∙ lines-append (map (λ k. nodeForm (nodeAt w k)) (below i)) (nodeForm (nodeAt w i) ∷ [])
     ∙ ap (λ (l : List ℕ). nodeLines w i ++ l) (append-nil (printForm (nodeForm (nodeAt w i)) ++ ascii "\n"))
 
--- ---- lines as they are written
--- a number before the end of its line
-pub number-line : (a b : List ℕ) → a ++ (b ++ ascii ")\n") ≡ a ++ b ++ ascii ")" ++ ascii "\n"
-number-line a b = simp append-assoc
-
--- two children after what stands before them
-pub children-line : (h a b : List ℕ) → h ++ (ascii " (line " ++ a ++ ascii ") (line " ++ b ++ ascii "))\n")
-    ≡ h ++ ascii " " ++ (ascii "(line " ++ a ++ ascii ")") ++ ascii " " ++ (ascii "(line " ++ b ++ ascii ")") ++ ascii ")" ++ ascii "\n"
-children-line h a b = simp append-assoc
+-- ---- what the code writes, in the brackets of the definition
+-- two children in a form
+pub two-children : (h a b e : List ℕ) → h ++ a ++ b ++ e ≡ h ++ (a ++ (b ++ [])) ++ e
+two-children h a b e = simp (append-assoc, append-nil)

@@ -6,7 +6,7 @@ use native.Mathlib.Nat.{add-zero}
 use native.Mathlib.Omega.{arith}
 use lib.ListN.{length-append}
 use lib.Seq.{sets}
-use Rattle.text.proofs.NodeWords.{sets-append}
+use Rattle.table.proofs.NodePlaces.{sets-append}
 use Rattle.text_writer.specs.Sink.{Wrote}
 
 -- what is written after what was written

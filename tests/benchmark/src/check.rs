@@ -1,37 +1,36 @@
 //! The rules of an accepted table.
-use quelbrift::{Refusal, Table};
+use quelbrift::{Refusal, Table, MAX_CHILDREN, NODE_WORDS};
 
-pub fn node(words: &[u32], i: usize) -> [u32; 4] {
-    [words[4 * i], words[4 * i + 1], words[4 * i + 2], words[4 * i + 3]]
+/// A node of a well-formed table: its kind, its variable or 0, and its children.
+pub fn node(words: &[u32], i: usize) -> (u32, u32, &[u32]) {
+    let words = &words[NODE_WORDS * i..NODE_WORDS * (i + 1)];
+    (words[0], words[1], &words[3..3 + words[2] as usize])
 }
 
-/// The children of a node.
-fn children(node: [u32; 4]) -> &'static [usize] {
-    match node[0] {
-        4 | 5 => &[2, 3],
-        _ => &[],
+fn malformed(words: &[u32], i: usize, variables: u32) -> bool {
+    let words = &words[NODE_WORDS * i..NODE_WORDS * (i + 1)];
+    let [kind, x, number] = [words[0], words[1], words[2]];
+    let (named, allowed) = match kind {
+        0 | 1 => (x == 0, number == 0),
+        2 | 3 => (x < variables, number == 0),
+        4 => (x < variables, number == 2),
+        5 => (x == 0, (2..=MAX_CHILDREN).contains(&number)),
+        _ => return true,
+    };
+    if !named || !allowed {
+        return true;
     }
-}
-
-fn malformed(node: [u32; 4], i: usize, variables: u32) -> bool {
-    let [kind, x, a, b] = node;
-    let below = (a as usize) < i && (b as usize) < i;
-    match kind {
-        0 | 1 => x != 0 || a != 0 || b != 0,
-        2 | 3 => x >= variables || a != 0 || b != 0,
-        4 => x >= variables || !below,
-        5 => x != 0 || !below,
-        _ => true,
-    }
+    let (children, unused) = words[3..].split_at(number as usize);
+    children.iter().any(|&child| child as usize >= i) || unused.iter().any(|&word| word != 0)
 }
 
 /// The variables named at each node or below it.
 fn supports(words: &[u32], n: usize) -> Vec<u64> {
     let mut supports: Vec<u64> = Vec::with_capacity(n);
     for i in 0..n {
-        let node = node(words, i);
-        let named = if matches!(node[0], 2..=4) { 1 << node[1] } else { 0 };
-        supports.push(children(node).iter().fold(named, |all, &c| all | supports[node[c] as usize]));
+        let (kind, x, children) = node(words, i);
+        let named = if matches!(kind, 2..=4) { 1 << x } else { 0 };
+        supports.push(children.iter().fold(named, |all, &child| all | supports[child as usize]));
     }
     supports
 }
@@ -39,29 +38,33 @@ fn supports(words: &[u32], n: usize) -> Vec<u64> {
 fn first_parentless(words: &[u32], n: usize) -> Option<usize> {
     let mut marked = vec![false; n];
     for i in 0..n {
-        let node = node(words, i);
-        for &c in children(node) {
-            marked[node[c] as usize] = true;
+        for &child in node(words, i).2 {
+            marked[child as usize] = true;
         }
     }
     (0..n - 1).find(|&i| !marked[i])
 }
 
 fn undecomposable(words: &[u32], supports: &[u64], i: usize) -> bool {
-    let [kind, x, a, b] = node(words, i);
+    let (kind, x, children) = node(words, i);
+    let (mut under, mut met) = (0, 0);
+    for &child in children {
+        met |= under & supports[child as usize];
+        under |= supports[child as usize];
+    }
     match kind {
-        4 => (supports[a as usize] | supports[b as usize]) >> x & 1 == 1,
-        5 => supports[a as usize] & supports[b as usize] != 0,
+        4 => under >> x & 1 == 1,
+        5 => met != 0,
         _ => false,
     }
 }
 
 fn unreduced(words: &[u32], i: usize) -> bool {
-    let [kind, _, a, b] = node(words, i);
-    let (low, high) = (words[4 * a as usize] == 0, words[4 * b as usize] == 0);
+    let (kind, _, children) = node(words, i);
+    let is_false = |&child: &u32| words[NODE_WORDS * child as usize] == 0;
     match kind {
-        4 => low && high,
-        5 => low || high,
+        4 => children.iter().all(is_false),
+        5 => children.iter().any(is_false),
         _ => false,
     }
 }
@@ -70,14 +73,14 @@ fn unreduced(words: &[u32], i: usize) -> bool {
 pub fn check(table: Table) -> Result<(), Refusal> {
     let Table { words, variables, nodes } = table;
     let n = nodes as usize;
-    if !(1..=40).contains(&variables) || !(1..=1024).contains(&n) || words.len() < 4 * n {
+    if !(1..=40).contains(&variables) || !(1..=1024).contains(&n) || words.len() < NODE_WORDS * n {
         return Err(Refusal { number: 21, place: 0 });
     }
     let refuse = |number, found: Option<usize>| match found {
         Some(i) => Err(Refusal { number, place: i as u64 }),
         None => Ok(()),
     };
-    refuse(22, (0..n).find(|&i| malformed(node(words, i), i, variables)))?;
+    refuse(22, (0..n).find(|&i| malformed(words, i, variables)))?;
     refuse(23, first_parentless(words, n))?;
     let supports = supports(words, n);
     refuse(24, (0..n).find(|&i| undecomposable(words, &supports, i)))?;

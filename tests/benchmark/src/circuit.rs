@@ -1,12 +1,23 @@
-//! Circuits as node tables: four words a node, children before parents.
-use quelbrift::Table;
+//! Circuits as node tables: kind, variable, number of children and eight children a node, children before parents.
+use quelbrift::{Table, NODE_WORDS};
 use std::collections::HashMap;
+
+/// The words of a node.
+pub type Node = [u32; NODE_WORDS];
+
+/// The words of a node of a kind over a variable, or 0, with some children.
+fn node(kind: u32, x: u32, children: &[u32]) -> Node {
+    let mut words = [0; NODE_WORDS];
+    words[..3].copy_from_slice(&[kind, x, children.len() as u32]);
+    words[3..3 + children.len()].copy_from_slice(children);
+    words
+}
 
 /// A table under construction; the last node made is the whole circuit.
 pub struct Circuit {
     pub words: Vec<u32>,
     pub variables: u32,
-    made: HashMap<[u32; 4], u32>,
+    made: HashMap<Node, u32>,
 }
 
 impl Circuit {
@@ -15,7 +26,7 @@ impl Circuit {
     }
 
     pub fn nodes(&self) -> usize {
-        self.words.len() / 4
+        self.words.len() / NODE_WORDS
     }
 
     /// The table as it is lent to the engine.
@@ -24,14 +35,14 @@ impl Circuit {
     }
 
     /// A new node, even where one with the same words is there.
-    fn fresh(&mut self, node: [u32; 4]) -> u32 {
+    fn fresh(&mut self, node: Node) -> u32 {
         let number = self.nodes() as u32;
         self.words.extend(node);
         number
     }
 
     /// The node with these words, made once.
-    fn shared(&mut self, node: [u32; 4]) -> u32 {
+    fn shared(&mut self, node: Node) -> u32 {
         if let Some(&number) = self.made.get(&node) {
             return number;
         }
@@ -41,32 +52,37 @@ impl Circuit {
     }
 
     pub fn constant(&mut self, value: bool) -> u32 {
-        self.shared([u32::from(value), 0, 0, 0])
+        self.shared(node(u32::from(value), 0, &[]))
     }
 
     pub fn positive(&mut self, x: u32) -> u32 {
-        self.shared([2, x, 0, 0])
+        self.shared(node(2, x, &[]))
     }
 
     pub fn negative(&mut self, x: u32) -> u32 {
-        self.shared([3, x, 0, 0])
+        self.shared(node(3, x, &[]))
     }
 
     /// a where x is false, b where it is true.
     pub fn decision(&mut self, x: u32, a: u32, b: u32) -> u32 {
-        self.shared([4, x, a, b])
+        self.shared(node(4, x, &[a, b]))
     }
 
     /// A decision of its own, not shared with an equal one.
     pub fn fresh_decision(&mut self, x: u32, a: u32, b: u32) -> u32 {
-        self.fresh([4, x, a, b])
+        self.fresh(node(4, x, &[a, b]))
     }
 
     pub fn conjunction(&mut self, a: u32, b: u32) -> u32 {
-        self.shared([5, 0, a, b])
+        self.conjunction_of(&[a, b])
     }
 
-    /// The conjunction of one or more nodes of disjoint variables.
+    /// One conjunction of two to eight nodes of disjoint variables.
+    pub fn conjunction_of(&mut self, parts: &[u32]) -> u32 {
+        self.shared(node(5, 0, parts))
+    }
+
+    /// The conjunction of one or more nodes of disjoint variables, as a chain of conjunctions of two.
     pub fn all(&mut self, parts: &[u32]) -> u32 {
         let mut whole = parts[0];
         for &part in &parts[1..] {
@@ -122,7 +138,7 @@ impl Circuit {
         let (x, bit) = (all.trailing_zeros(), all & all.wrapping_neg());
         let is_negative = negatives & bit != 0;
         let number = if masks == [bit] {
-            self.shared([2 + u32::from(is_negative), x, 0, 0])
+            self.shared(node(2 + u32::from(is_negative), x, &[]))
         } else {
             let (with, without) = cofactors(&masks, bit);
             let with = self.some_of_sorted(with, negatives, most, made)?;

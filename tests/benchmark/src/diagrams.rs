@@ -36,14 +36,14 @@ impl Diagrams {
     fn read(&mut self, table: Table) -> Result<Vec<u32>, Over> {
         let mut roots = Vec::with_capacity(table.nodes as usize);
         for i in 0..table.nodes as usize {
-            let [kind, x, a, b] = node(table.words, i);
+            let (kind, x, children) = node(table.words, i);
             let root = match kind {
                 0 => ZERO,
                 1 => ONE,
                 2 => self.functions.make(x, ZERO, ONE)?,
                 3 => self.functions.make(x, ONE, ZERO)?,
-                4 => self.functions.choose(x, roots[a as usize], roots[b as usize])?,
-                _ => self.functions.and(roots[a as usize], roots[b as usize])?,
+                4 => self.functions.choose(x, roots[children[0] as usize], roots[children[1] as usize])?,
+                _ => children.iter().rev().try_fold(ONE, |all, &child| self.functions.and(roots[child as usize], all))?,
             };
             roots.push(root);
         }

@@ -59,12 +59,25 @@ pub fn parity(n: u32) -> Family {
     named(format!("parity of {n}"), c)
 }
 
-/// The conjunction of blocks of their own variables, each at least k of m: C(m, k)^blocks terms.
+/// Blocks of their own variables, each at least k of m.
+fn thresholds(c: &mut Circuit, blocks: u32, k: usize, m: u32) -> Vec<u32> {
+    (0..blocks).map(|i| c.at_least(k, &range(i * m, m))).collect()
+}
+
+/// The conjunction of blocks of their own variables, each at least k of m: C(m, k)^blocks terms. A chain of conjunctions of two.
 pub fn product(blocks: u32, k: usize, m: u32) -> Family {
     let mut c = Circuit::new(blocks * m);
-    let parts: Vec<u32> = (0..blocks).map(|i| c.at_least(k, &range(i * m, m))).collect();
+    let parts = thresholds(&mut c, blocks, k, m);
     c.all(&parts);
     named(format!("product of {blocks} times at least {k} of {m}"), c)
+}
+
+/// The same as one conjunction, of two to eight blocks.
+pub fn one_product(blocks: u32, k: usize, m: u32) -> Family {
+    let mut c = Circuit::new(blocks * m);
+    let parts = thresholds(&mut c, blocks, k, m);
+    c.conjunction_of(&parts);
+    named(format!("one node of {blocks} times at least {k} of {m}"), c)
 }
 
 /// A decision over two thresholds k of m that share some variables.
@@ -350,8 +363,12 @@ pub fn usual() -> Vec<Family> {
         parity(5),
         parity(13),
         product(8, 1, 2),
+        one_product(8, 1, 2),
         product(4, 2, 4),
+        one_product(4, 2, 4),
         product(12, 1, 2),
+        product(6, 1, 4),
+        one_product(6, 1, 4),
         overlap(3, 8, 2),
         overlap(3, 12, 6),
         multiplexer(3),

@@ -49,7 +49,8 @@ impl<'a> Lent<'a> {
     }
 }
 
-fn conjunction(part: &mut Part, a: Terms, b: Terms) -> Result<(), Full> {
+/// Adds the joins of the terms of a and b.
+fn joins(part: &mut Part, a: Terms, b: Terms) -> Result<(), Full> {
     for u in b.iter() {
         for t in a.iter() {
             if !conflict(u, t) {
@@ -60,16 +61,29 @@ fn conjunction(part: &mut Part, a: Terms, b: Terms) -> Result<(), Full> {
     Ok(())
 }
 
+/// Makes the terms of a conjunction of two or more: child by child, from the last to the first.
+fn conjunction<'a>(part: &mut Part, children: &[u32], terms: impl Fn(u32) -> Terms<'a>) -> Result<(), Full> {
+    let (first, rest) = (terms(children[0]), &children[1..]);
+    if let [second] = rest {
+        return joins(part, first, terms(*second));
+    }
+    let capacity = part.positives.len();
+    let (positives, negatives) = (&mut vec![0; capacity][..], &mut vec![0; capacity][..]);
+    let mut joined = Part { positives, negatives, count: 0 };
+    conjunction(&mut joined, rest, terms)?;
+    joins(part, first, joined.terms())
+}
+
 /// Makes the terms of one node in its own part, from its children's terms in the parts below.
 fn fill(
     decision: &mut impl FnMut(&mut Part, u32, Terms, Terms) -> Result<(), Full>,
     part: &mut Part,
-    node: [u32; 4],
+    node: (u32, u32, &[u32]),
     below: Terms,
     counts: &[u32],
     capacity: usize,
 ) -> Result<(), Full> {
-    let [kind, x, a, b] = node;
+    let (kind, x, children) = node;
     let terms = |child: u32| {
         let start = child as usize * capacity;
         let end = start + counts[child as usize] as usize;
@@ -78,8 +92,8 @@ fn fill(
     match kind {
         1 => part.insert(EMPTY).map(|_| ()),
         2 | 3 => part.insert(extend(EMPTY, x, kind == 2)).map(|_| ()),
-        4 => decision(part, x, terms(a), terms(b)),
-        5 => conjunction(part, terms(a), terms(b)),
+        4 => decision(part, x, terms(children[0]), terms(children[1])),
+        5 => conjunction(part, children, terms),
         _ => Ok(()),
     }
 }

@@ -1,4 +1,5 @@
 //! Quine-McCluskey by truth table: all minterms of the circuit, merged level by level.
+use crate::check::node;
 use crate::terms::key;
 use quelbrift::{Table, Term};
 
@@ -12,15 +13,15 @@ fn implicant(free: u32, value: u32) -> Implicant {
 /// The circuit's value at an assignment, node by node.
 fn value(words: &[u32], values: &mut [bool], assignment: u32) -> bool {
     for i in 0..values.len() {
-        let [kind, x, a, b] = [words[4 * i], words[4 * i + 1], words[4 * i + 2], words[4 * i + 3]];
+        let (kind, x, children) = node(words, i);
         let bit = assignment >> x & 1 == 1;
         values[i] = match kind {
             0 => false,
             1 => true,
             2 => bit,
             3 => !bit,
-            4 => values[if bit { b } else { a } as usize],
-            _ => values[a as usize] && values[b as usize],
+            4 => values[children[usize::from(bit)] as usize],
+            _ => children.iter().all(|&child| values[child as usize]),
         };
     }
     values[values.len() - 1]

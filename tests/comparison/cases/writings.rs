@@ -3,7 +3,7 @@
 use super::questions::{paste_table, table_notes};
 use crate::compare::{same, same_entries, Case, Seen};
 use crate::engine::{self, MARGIN};
-use crate::oracle::table::Table;
+use crate::oracle::table::{Table, NODE_WORDS};
 use crate::oracle::writer;
 use crate::random::Random;
 use crate::shrink;
@@ -22,7 +22,7 @@ impl Writing {
 
     /// The text is read in again with just enough words, and gives the table.
     fn read_again(&self, text: &[u8]) -> Result<(), String> {
-        let needed = 4 * self.table.nodes as usize;
+        let needed = NODE_WORDS * self.table.nodes as usize;
         let mut words = vec![u32::MAX; needed];
         let answer = engine::caught(|| engine::own(quelbrift::read(text, &mut words)));
         same("read again", answer, Ok(Ok((self.table.variables, self.table.nodes))))?;

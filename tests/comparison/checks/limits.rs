@@ -7,7 +7,8 @@ use crate::cases::readings::Reading;
 use crate::cases::writings::Writing;
 use crate::circuits;
 use crate::compare::compare;
-use crate::oracle::table::Table;
+use crate::oracle::table::{Table, MOST_CHILDREN, MOST_NODES, NODE_WORDS};
+use crate::oracle::text::MOST_BYTES;
 use crate::random::Random;
 use crate::tally::Tally;
 use crate::texts;
@@ -15,6 +16,9 @@ use crate::texts;
 /// What the header states, and what the comparison itself needs.
 const STATED_STACK: usize = 512 * 1024;
 const OWN_STACK: usize = 32 * 1024;
+
+/// The words of the largest table.
+const MOST_WORDS: usize = MOST_NODES * NODE_WORDS;
 
 /// The largest work of each kind; how many comparisons were made.
 fn largest_work(seed: u64) -> u64 {
@@ -24,11 +28,14 @@ fn largest_work(seed: u64) -> u64 {
         compare("limits", &Asked::new(table.clone(), question), &mut tally);
     }
     compare("limits", &Listing::new(table.clone(), 300, [307_200, 307_200, 1_024], seed), &mut tally);
-    compare("limits", &Writing::new(table, 40_000), &mut tally);
+    compare("limits", &Writing::new(table, MOST_BYTES), &mut tally);
+    let (variables, clauses) = circuits::clauses(6, 4);
+    let rows = 4_096 * clauses.len();
+    compare("limits", &Listing::new(Table::of(variables, &clauses), 4_096, [rows, rows, clauses.len()], seed), &mut tally);
     for depth in [16, 17, 3_000] {
-        compare("limits", &Reading::new(texts::deep(&random, depth).as_bytes(), 4_096), &mut tally);
+        compare("limits", &Reading::new(texts::deep(&random, depth).as_bytes(), MOST_WORDS), &mut tally);
     }
-    compare("limits", &Reading::new(texts::largest(&random).as_bytes(), 4_096), &mut tally);
+    compare("limits", &Reading::new(texts::largest(&random).as_bytes(), MOST_WORDS), &mut tally);
     tally.total()
 }
 
@@ -37,7 +44,7 @@ fn largest_work(seed: u64) -> u64 {
 fn within_the_stated_stack() {
     let small = std::thread::Builder::new().stack_size(STATED_STACK + OWN_STACK);
     let compared = small.spawn(|| largest_work(0x6000_0000)).expect("a thread").join();
-    assert_eq!(compared.expect("no difference"), 13);
+    assert_eq!(compared.expect("no difference"), 14);
 }
 
 #[test]
@@ -45,5 +52,14 @@ fn several_threads_at_once() {
     let threads: Vec<_> =
         (0..4).map(|seed| std::thread::spawn(move || (0..3).map(|more| largest_work(8 * seed + more)).sum::<u64>())).collect();
     let compared: u64 = threads.into_iter().map(|thread| thread.join().expect("no difference")).sum();
-    assert_eq!(compared, 4 * 3 * 13);
+    assert_eq!(compared, 4 * 3 * 14);
+}
+
+/// The wrapper's limits are those that the oracle has from the papers.
+#[test]
+fn limits_of_the_papers() {
+    assert_eq!(quelbrift::NODE_WORDS, NODE_WORDS);
+    assert_eq!(quelbrift::MAX_CHILDREN as usize, MOST_CHILDREN);
+    assert_eq!(quelbrift::MAX_NODES as usize, MOST_NODES);
+    assert_eq!(quelbrift::MAX_TEXT, MOST_BYTES);
 }

@@ -1,5 +1,6 @@
 //! The tests, one subject a file.
 
+mod chains;
 mod damaged;
 mod limits;
 mod lines;

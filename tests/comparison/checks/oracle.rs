@@ -1,9 +1,11 @@
 //! The oracle against itself: two ways to the same answer, where there are two.
 
 use crate::circuits;
+use crate::damage;
 use crate::oracle::answers::Oracle;
-use crate::oracle::function::{is_prime, Term};
-use crate::oracle::grammar;
+use crate::oracle::function::{is_prime, Functions, Term};
+use crate::oracle::table::{Node, Table};
+use crate::oracle::{grammar, rows, text, writer};
 use crate::random::Random;
 
 #[test]
@@ -40,9 +42,53 @@ fn all_rows_and_single_rows_agree() {
     }
 }
 
+/// The clearances of every node.
+fn primes(variables: u32, nodes: &[Node]) -> Vec<Vec<Term>> {
+    Oracle::new(&Table::of(variables, nodes)).accepted().expect("accepted").primes()
+}
+
+/// The rows of a conjunction over many variables, joined from its children's, are those that trying every row finds.
+#[test]
+fn joined_rows_and_tried_rows_agree() {
+    for seed in 0..60 {
+        let random = Random::of(0x3000, seed);
+        let variables = random.between(9, 11) as u32;
+        let nodes = circuits::parted(&random, variables);
+        let tried = Functions::new(variables, &nodes).expect("few variables");
+        assert_eq!(primes(variables, &nodes).pop(), Some(rows::primes(tried.whole(), &tried.tried)), "seed {seed}");
+    }
+}
+
+#[test]
+fn conjunctions_and_chains_agree() {
+    for seed in 0..1_000 {
+        let random = Random::of(0x3100, seed);
+        let variables = random.between(1, 8) as u32;
+        let nodes = circuits::nodes(&random, variables);
+        let (chained, places) = circuits::chained(&random, &nodes);
+        let of_chain = primes(variables, &chained);
+        for (of_node, place) in primes(variables, &nodes).iter().zip(places) {
+            assert_eq!(*of_node, of_chain[place as usize], "seed {seed}");
+        }
+    }
+}
+
+#[test]
+fn what_is_written_is_read_again() {
+    for seed in 0..2_000 {
+        let random = Random::of(0x3200, seed);
+        let table = damage::noise(&random, random.between(1, 40) as u32, random.between(1, 40));
+        let mut words = vec![7; table.words.len()];
+        let text = writer::text(&table).expect("well-formed");
+        assert_eq!(text::read(text.as_bytes(), &mut words), Ok((table.variables, table.nodes)), "seed {seed}");
+        assert_eq!(words, table.words, "seed {seed}");
+    }
+}
+
 #[test]
 fn the_grammar_stops_at_the_first_wrong_byte() {
-    let stops: [(&str, Option<usize>); 12] = [
+    let eight = " (true)".repeat(8);
+    let stops: [(&str, Option<usize>); 16] = [
         ("", Some(0)),
         ("(circuit 3)\n", Some(12)),
         ("(circuit 3)\n(true)\n", None),
@@ -53,7 +99,11 @@ fn the_grammar_stops_at_the_first_wrong_byte() {
         ("(circuit 3)\n(both (line 99) (true))\n", None),
         ("(circuit 3)\n\n", Some(12)),
         ("(circuit 3) \n", Some(11)),
+        ("(circuit 3)\n(both)\n", Some(17)),
         ("(circuit 3)\n(both (true))\n", Some(24)),
+        (&format!("(circuit 3)\n(both{eight})\n"), None),
+        (&format!("(circuit 3)\n(both{eight} (true))\n"), Some(73)),
+        (&format!("(circuit 3)\n(both{eight} "), Some(73)),
         ("(circuit 3)\n(O)\n", Some(13)),
     ];
     for (text, place) in stops {

@@ -6,9 +6,12 @@ use crate::cases::questions::Question::{Check, Count};
 use crate::cases::readings::Reading;
 use crate::compare::{compare, Case};
 use crate::oracle::answers::Oracle;
-use crate::oracle::table::Table;
+use crate::oracle::table::{Table, NODE_WORDS};
 use crate::oracle::{text, Refused};
 use crate::tally::Tally;
+
+/// The words that the program lends.
+const WORDS: usize = 704;
 
 /// What the scope says of a circuit.
 struct Known {
@@ -59,9 +62,9 @@ fn same_on_both_sides(case: impl Case) {
 
 /// The engine alone against the scope; the table as read.
 fn engine_against_paper(known: &Known) -> Table {
-    let mut words = vec![0; 256];
+    let mut words = vec![0; WORDS];
     let (variables, nodes) = quelbrift::read(known.text.as_bytes(), &mut words).expect("read");
-    let table = Table::new(variables, nodes, &words[..4 * nodes as usize]);
+    let table = Table::new(variables, nodes, &words[..NODE_WORDS * nodes as usize]);
     let lent = quelbrift::Table { words: &words, variables, nodes };
     match known.answer {
         Err(refusal) => {
@@ -103,7 +106,7 @@ fn circuits_of_the_papers() {
     for known in &KNOWN {
         let table = engine_against_paper(known);
         oracle_against_paper(known, &table);
-        same_on_both_sides(Reading::new(known.text.as_bytes(), 256));
+        same_on_both_sides(Reading::new(known.text.as_bytes(), WORDS));
         same_on_both_sides(Asked::new(table.clone(), Check));
         same_on_both_sides(Asked::new(table.clone(), Count));
         for capacity in 0..6 {

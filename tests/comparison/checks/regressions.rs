@@ -6,7 +6,7 @@ use crate::cases::questions::Question::{Check, Count, Evaluate, Implies, Prime, 
 use crate::cases::readings::{Line, Reading};
 use crate::cases::writings::Writing;
 use crate::compare::{compare, Case};
-use crate::oracle::table::Table;
+use crate::oracle::table::{Node, Table};
 use crate::tally::Tally;
 
 fn again(case: impl Case) {
@@ -14,11 +14,12 @@ fn again(case: impl Case) {
 }
 
 /// `(pick 0 (no 1) (pick 1 (yes 2) (true)))` over three variables.
-const WORKED: [u32; 20] = [3, 1, 0, 0, 2, 2, 0, 0, 1, 0, 0, 0, 4, 1, 1, 2, 4, 0, 0, 3];
+fn worked() -> Table {
+    Table::of(3, &[Node::No(1), Node::Yes(2), Node::True, Node::Pick(1, 1, 2), Node::Pick(0, 0, 3)])
+}
 
 #[test]
 fn regressions() {
-    let worked = || Table::new(3, 5, &WORKED);
     for question in [Check, Evaluate(5), Count, Implies(4, 2), Prime(4, 2), Reduce(7)] {
         again(Asked::new(worked(), question));
     }
@@ -26,6 +27,7 @@ fn regressions() {
     again(Listing::new(worked(), 3, [15, 15, 5], 1));
     again(Writing::new(worked(), 100));
     again(View::new(20, 4, 4, 4));
-    again(Reading::new(b"(circuit 3)\n(pick 0 (no 1) (pick 1 (yes 2) (true)))\n", 20));
+    again(Reading::new(b"(circuit 3)\n(pick 0 (no 1) (pick 1 (yes 2) (true)))\n", 55));
+    again(Asked::new(Table::new(1, 1, &[1, 0, 0, 0, 0, 0, 0, 0, 0, 0, 1]), Check));
     again(Line::new(b"(stow 0 2)\n", 3));
 }

@@ -3,8 +3,8 @@
 use super::listed::Listings;
 use super::questions::Questioning;
 use crate::cases::questions::Question::{Check, Count};
-use crate::circuits;
-use crate::oracle::table::{Node, Table};
+use crate::circuits::{self, Part};
+use crate::oracle::table::{Node, Table, MOST_CHILDREN};
 use crate::random::Random;
 use crate::tally::Tally;
 
@@ -91,26 +91,45 @@ fn long_listings() {
     assert_eq!(list_around("parity of 12", 12, &circuits::symmetric(12, odd), &[2048, 2047], &mut tally), 2048);
     assert_eq!(list_around("3 to 6 of 9", 9, &circuits::symmetric(9, 0b111_1000), &[1680, 1679], &mut tally), 1680);
     assert_eq!(list_around("3 to 7 of 10", 10, &circuits::symmetric(10, 0b1111_1000), &[4096], &mut tally), 4200);
-    tally.expect(&[("list", &[(1, 3), (42, 4)])]);
+    let mut clauses = |number: usize, size: u32, capacities: &[u32]| {
+        let (variables, nodes) = circuits::clauses(number, size);
+        list_around(&format!("{number} clauses of {size}"), variables, &nodes, capacities, &mut tally)
+    };
+    assert_eq!(clauses(8, 2, &[256, 255]), 256);
+    assert_eq!(clauses(6, 4, &[4096, 4095]), 4096);
+    assert_eq!(clauses(8, 3, &[4096]), 6561);
+    tally.expect(&[("list", &[(1, 5), (42, 7)])]);
+}
+
+/// Circuits that are not `false`, over up to 40 variables in all; at least two.
+fn parts(random: &Random) -> Vec<Part> {
+    let (mut parts, mut named) = (vec![], 0);
+    while named + 7 <= 40 && (parts.len() < 2 || !random.once_in(12)) {
+        let variables = random.between(1, 7) as u32;
+        parts.push(circuits::satisfiable(random, variables));
+        named += variables;
+    }
+    parts
+}
+
+/// One conjunction of all the parts, or of some at a time until one is left.
+fn grouped(random: &Random, mut parts: Vec<Part>) -> Vec<Node> {
+    while parts.len() > 1 {
+        let number = random.choose(&[2, MOST_CHILDREN, MOST_CHILDREN]).min(parts.len());
+        let whole = circuits::conjunction(&parts[..number]);
+        parts.splice(..number, [whole]);
+    }
+    parts.remove(0).1
 }
 
 /// Conjunctions of circuits over different variables, up to 40 in all: the clearances are those of the parts, joined.
 #[test]
 fn conjunctions() {
     let mut tally = Tally::default();
-    let mut longest = 0;
+    let (mut longest, mut eight) = (0, 0);
     for seed in 0..150 {
         let random = Random::of(0x4200_0000, seed);
-        let mut nodes = vec![Node::True];
-        let mut named = 0;
-        while named + 7 <= 40 && !random.once_in(12) {
-            let variables = random.between(1, 7) as u32;
-            let part = circuits::nodes(&random, variables);
-            if part.last() != Some(&Node::False) {
-                nodes = circuits::conjunction(&nodes, &part, named);
-                named += variables;
-            }
-        }
+        let nodes = grouped(&random, parts(&random));
         let table = Table::of(40, &circuits::scattered(&random, &nodes, 40));
         let mut listings = Listings::new(format!("conjunctions, seed {seed}"), &table, &mut tally);
         let whole = listings.whole();
@@ -119,7 +138,9 @@ fn conjunctions() {
             listings.list(capacity, listings.enough(capacity), seed);
         }
         longest = longest.max(if whole <= 4_096 { whole } else { 0 });
+        eight += u32::from(nodes.last().expect("a node").children().len() == MOST_CHILDREN);
     }
+    assert!(eight > 10, "{eight} conjunctions of eight only");
     assert!(longest > 2_000, "the longest listing has {longest} rows");
     tally.expect(&[("list", &[(1, 100), (42, 100)])]);
 }

@@ -4,7 +4,8 @@ use crate::cases::writings::Writing;
 use crate::circuits;
 use crate::compare::compare;
 use crate::damage;
-use crate::oracle::table::Table;
+use crate::oracle::table::{Node, Table, MOST_CHILDREN};
+use crate::oracle::text::MOST_BYTES;
 use crate::oracle::writer;
 use crate::random::Random;
 use crate::tally::Tally;
@@ -48,4 +49,18 @@ fn largest_texts() {
         write_into_all_sinks(&format!("largest texts, seed {seed}"), &random, &table, &mut tally);
     }
     tally.expect(&[("write", &[(1, 300), (16, 300)])]);
+}
+
+/// A conjunction of eight wherever there can be one, with line numbers as long as can be: no well-formed table has a longer text.
+#[test]
+fn the_longest_text() {
+    let mut tally = Tally::default();
+    let eight = |index: u32| Node::Both(vec![index - 1; MOST_CHILDREN]);
+    let nodes: Vec<Node> = [Node::Yes(39)].into_iter().chain((1..1_024).map(eight)).collect();
+    let table = Table::of(40, &nodes);
+    let length = writer::text(&table).expect("well-formed").len();
+    assert_eq!(length, 96_511);
+    assert!(length <= MOST_BYTES);
+    write_into_all_sinks("the longest text", &Random::of(0xe200_0000, 0), &table, &mut tally);
+    tally.expect(&[("write", &[(1, 2), (16, 2)])]);
 }

@@ -120,8 +120,10 @@ impl Accepted {
         let supports = supports(&self.nodes);
         let mut primes: Vec<Vec<Term>> = vec![];
         for (index, node) in self.nodes.iter().enumerate() {
-            primes.push(match *node {
-                Node::Both(a, b) if supports[index].count_ones() as usize > FEW => rows::joined(&primes[a as usize], &primes[b as usize]),
+            primes.push(match node {
+                Node::Both(children) if supports[index].count_ones() as usize > FEW => {
+                    rows::joined(children.iter().map(|&child| primes[child as usize].as_slice()))
+                }
                 _ => {
                     let part = Functions::new(40, &reachable(&self.nodes[..=index])).expect("few enough variables to try every row");
                     rows::primes(part.whole(), &part.tried)

@@ -18,13 +18,13 @@ fn share(nodes: &[Node], term: Term) -> u128 {
             (0, _) => if_false,
             _ => if_true,
         };
-        shares.push(match *node {
+        shares.push(match node {
             Node::False => 0,
             Node::True => ALL,
-            Node::Yes(variable) => decide(variable, 0, ALL),
-            Node::No(variable) => decide(variable, ALL, 0),
-            Node::Pick(variable, a, b) => decide(variable, share_of(a), share_of(b)),
-            Node::Both(a, b) => share_of(a) * share_of(b) / ALL,
+            Node::Yes(variable) => decide(*variable, 0, ALL),
+            Node::No(variable) => decide(*variable, ALL, 0),
+            Node::Pick(variable, a, b) => decide(*variable, share_of(*a), share_of(*b)),
+            Node::Both(children) => children.iter().fold(ALL, |share, &child| share * share_of(child) / ALL),
         });
     }
     shares.pop().expect("a node")

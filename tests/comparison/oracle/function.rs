@@ -37,13 +37,13 @@ pub fn values(nodes: &[Node], assignment: u64) -> Vec<bool> {
     let mut values: Vec<bool> = vec![];
     for node in nodes {
         let is_true = |variable: u32| assignment >> variable & 1 == 1;
-        values.push(match *node {
+        values.push(match node {
             Node::False => false,
             Node::True => true,
-            Node::Yes(variable) => is_true(variable),
-            Node::No(variable) => !is_true(variable),
-            Node::Pick(variable, a, b) => values[if is_true(variable) { b } else { a } as usize],
-            Node::Both(a, b) => values[a as usize] && values[b as usize],
+            Node::Yes(variable) => is_true(*variable),
+            Node::No(variable) => !is_true(*variable),
+            Node::Pick(variable, a, b) => values[*if is_true(*variable) { b } else { a } as usize],
+            Node::Both(children) => children.iter().all(|&child| values[child as usize]),
         });
     }
     values

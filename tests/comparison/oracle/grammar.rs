@@ -3,11 +3,18 @@
 
 /// The rules. A capital letter names a rule, any other byte stands for itself. The alternatives of a rule begin with different
 /// bytes; one at most is empty or begins with a rule, and it is taken where no other one begins with the byte.
-const RULES: [(u8, &[&str]); 12] = [
+const RULES: [(u8, &[&str]); 18] = [
     (TEXT, &["(circuit N)\n(O)\nM"]),
     // M: more lines. O: the inside of a line's own form. F: an argument. A: its inside.
     (b'M', &["(O)\nM", ""]),
-    (b'O', &["true", "false", "yes N", "no N", "pick N F F", "both F F"]),
+    (b'O', &["true", "false", "yes N", "no N", "pick N F F", "both F FB"]),
+    // B, C, D, G, H, I: at most six, five, four, three, two, one arguments more.
+    (b'B', &[" FC", ""]),
+    (b'C', &[" FD", ""]),
+    (b'D', &[" FG", ""]),
+    (b'G', &[" FH", ""]),
+    (b'H', &[" FI", ""]),
+    (b'I', &[" F", ""]),
     (b'F', &["(A)"]),
     (b'A', &["line N", "O"]),
     // N: a number. X, Y, Z: at most three, two, one digits more.

@@ -65,10 +65,13 @@ pub fn primes(function: &[bool], tried: &[u32]) -> Vec<Term> {
     primes
 }
 
-/// The rows of a conjunction of functions that share no variable, in order.
-pub fn joined(first: &[Term], second: &[Term]) -> Vec<Term> {
+/// The rows of a conjunction of functions that share no variable, in order: one row of each, joined.
+pub fn joined<'a>(parts: impl Iterator<Item = &'a [Term]>) -> Vec<Term> {
     let join = |a: &Term, b: &Term| Term { positive: a.positive | b.positive, negative: a.negative | b.negative };
-    let mut joined: Vec<Term> = first.iter().flat_map(|a| second.iter().map(move |b| join(a, b))).collect();
+    let mut joined = vec![Term { positive: 0, negative: 0 }];
+    for part in parts {
+        joined = joined.iter().flat_map(|a| part.iter().map(move |b| join(a, b))).collect();
+    }
     joined.sort_by_key(order);
     joined
 }

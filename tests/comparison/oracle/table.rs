@@ -2,6 +2,11 @@
 
 use super::{refused, Refused};
 
+/// The words of a node: kind, variable, number of children, and as many children as a `both` may have.
+pub const NODE_WORDS: usize = 3 + MOST_CHILDREN;
+pub const MOST_CHILDREN: usize = 8;
+pub const MOST_NODES: usize = 1_024;
+
 /// A table as it is lent, good or bad. The words past the nodes are not read.
 #[derive(Clone, Debug, PartialEq, Eq)]
 pub struct Table {
@@ -10,7 +15,7 @@ pub struct Table {
     pub words: Vec<u32>,
 }
 
-#[derive(Clone, Copy, Debug, PartialEq, Eq)]
+#[derive(Clone, Debug, PartialEq, Eq)]
 pub enum Node {
     False,
     True,
@@ -18,56 +23,69 @@ pub enum Node {
     No(u32),
     /// The variable, the child where it is false, the child where it is true.
     Pick(u32, u32, u32),
-    Both(u32, u32),
+    /// Two to eight children.
+    Both(Vec<u32>),
 }
 
 impl Node {
-    pub fn children(self) -> Vec<u32> {
+    pub fn children(&self) -> Vec<u32> {
         match self {
-            Node::Pick(_, a, b) | Node::Both(a, b) => vec![a, b],
+            Node::Pick(_, a, b) => vec![*a, *b],
+            Node::Both(children) => children.clone(),
             _ => vec![],
         }
     }
 
     /// The variable that is named at the node.
-    pub fn variable(self) -> Option<u32> {
+    pub fn variable(&self) -> Option<u32> {
         match self {
-            Node::Yes(variable) | Node::No(variable) | Node::Pick(variable, _, _) => Some(variable),
+            Node::Yes(variable) | Node::No(variable) | Node::Pick(variable, _, _) => Some(*variable),
             _ => None,
         }
     }
 
     /// The same node over renamed variables and renumbered children.
-    pub fn renamed(self, variable: impl Fn(u32) -> u32, child: impl Fn(u32) -> u32) -> Node {
+    pub fn renamed(&self, variable: impl Fn(u32) -> u32, child: impl Fn(u32) -> u32) -> Node {
         match self {
-            Node::False | Node::True => self,
-            Node::Yes(v) => Node::Yes(variable(v)),
-            Node::No(v) => Node::No(variable(v)),
-            Node::Pick(v, a, b) => Node::Pick(variable(v), child(a), child(b)),
-            Node::Both(a, b) => Node::Both(child(a), child(b)),
+            Node::False => Node::False,
+            Node::True => Node::True,
+            Node::Yes(v) => Node::Yes(variable(*v)),
+            Node::No(v) => Node::No(variable(*v)),
+            Node::Pick(v, a, b) => Node::Pick(variable(*v), child(*a), child(*b)),
+            Node::Both(children) => Node::Both(children.iter().map(|&old| child(old)).collect()),
         }
     }
 
-    pub fn encode(self) -> [u32; 4] {
-        match self {
-            Node::False => [0, 0, 0, 0],
-            Node::True => [1, 0, 0, 0],
-            Node::Yes(variable) => [2, variable, 0, 0],
-            Node::No(variable) => [3, variable, 0, 0],
-            Node::Pick(variable, a, b) => [4, variable, a, b],
-            Node::Both(a, b) => [5, 0, a, b],
-        }
+    pub fn encode(&self) -> [u32; NODE_WORDS] {
+        let kind = match self {
+            Node::False => 0,
+            Node::True => 1,
+            Node::Yes(_) => 2,
+            Node::No(_) => 3,
+            Node::Pick(..) => 4,
+            Node::Both(_) => 5,
+        };
+        let children = self.children();
+        let mut words = [0; NODE_WORDS];
+        words[..3].copy_from_slice(&[kind, self.variable().unwrap_or(0), children.len() as u32]);
+        words[3..3 + children.len()].copy_from_slice(&children);
+        words
     }
 
-    /// The node that four words mean; none where an unused word is not 0 or the kind is above 5.
-    fn decode(words: [u32; 4]) -> Option<Node> {
-        match words {
-            [0, 0, 0, 0] => Some(Node::False),
-            [1, 0, 0, 0] => Some(Node::True),
-            [2, variable, 0, 0] => Some(Node::Yes(variable)),
-            [3, variable, 0, 0] => Some(Node::No(variable)),
-            [4, variable, a, b] => Some(Node::Pick(variable, a, b)),
-            [5, 0, a, b] => Some(Node::Both(a, b)),
+    /// The node that its words mean; none where the kind is above 5, does not allow the number of children, or leaves a word unused
+    /// that is not 0.
+    fn decode(words: &[u32]) -> Option<Node> {
+        let (used, unused) = words[3..].split_at_checked(words[2] as usize)?;
+        if unused.iter().any(|&word| word != 0) {
+            return None;
+        }
+        match (words[0], words[1], used) {
+            (0, 0, []) => Some(Node::False),
+            (1, 0, []) => Some(Node::True),
+            (2, variable, []) => Some(Node::Yes(variable)),
+            (3, variable, []) => Some(Node::No(variable)),
+            (4, variable, &[a, b]) => Some(Node::Pick(variable, a, b)),
+            (5, 0, [_, _, ..]) => Some(Node::Both(used.to_vec())),
             _ => None,
         }
     }
@@ -114,20 +132,24 @@ fn parentless(nodes: &[Node]) -> Vec<bool> {
 }
 
 /// 24 for a node: a variable that meets itself.
-fn undecomposable(node: Node, supports: &[u64]) -> bool {
+fn undecomposable(node: &Node, supports: &[u64]) -> bool {
+    let under = |child: u32| supports[child as usize];
     match node {
-        Node::Pick(variable, a, b) => (supports[a as usize] | supports[b as usize]) >> variable & 1 == 1,
-        Node::Both(a, b) => supports[a as usize] & supports[b as usize] != 0,
+        Node::Pick(variable, a, b) => (under(*a) | under(*b)) >> variable & 1 == 1,
+        Node::Both(children) => {
+            let meets_an_earlier_one = |place: usize| children[..place].iter().any(|&other| under(other) & under(children[place]) != 0);
+            (0..children.len()).any(meets_an_earlier_one)
+        }
         _ => false,
     }
 }
 
 /// 25 for a node: a `both` with a `false` child, or a `pick` with two.
-fn unreduced(nodes: &[Node], node: Node) -> bool {
+fn unreduced(nodes: &[Node], node: &Node) -> bool {
     let is_false = |child: u32| nodes[child as usize] == Node::False;
     match node {
-        Node::Pick(_, a, b) => is_false(a) && is_false(b),
-        Node::Both(a, b) => is_false(a) || is_false(b),
+        Node::Pick(_, a, b) => is_false(*a) && is_false(*b),
+        Node::Both(children) => children.iter().any(|&child| is_false(child)),
         _ => false,
     }
 }
@@ -143,8 +165,8 @@ impl Table {
 
     /// The nodes of a well-formed table: 21, then 22 with the lowest node.
     pub fn well_formed(&self) -> Result<Vec<Node>, Refused> {
-        let in_range = (1..=40).contains(&self.variables) && (1..=1024).contains(&self.nodes);
-        if !in_range || self.words.len() < 4 * self.nodes as usize {
+        let in_range = (1..=40).contains(&self.variables) && (1..=MOST_NODES).contains(&(self.nodes as usize));
+        if !in_range || self.words.len() < NODE_WORDS * self.nodes as usize {
             return refused(21, 0);
         }
         (0..self.nodes).map(|index| self.node(index).ok_or(Refused { number: 22, place: u64::from(index) })).collect()
@@ -152,8 +174,8 @@ impl Table {
 
     /// One node, where its variable is below the number of variables and its children are below it.
     fn node(&self, index: u32) -> Option<Node> {
-        let start = 4 * index as usize;
-        let node = Node::decode(self.words[start..start + 4].try_into().unwrap())?;
+        let start = NODE_WORDS * index as usize;
+        let node = Node::decode(&self.words[start..start + NODE_WORDS])?;
         let children_below = node.children().iter().all(|&child| child < index);
         (node.variable().is_none_or(|variable| variable < self.variables) && children_below).then_some(node)
     }
@@ -167,8 +189,8 @@ impl Table {
             None => Ok(()),
         };
         lowest(23, &|index| parentless[index])?;
-        lowest(24, &|index| undecomposable(nodes[index], &supports))?;
-        lowest(25, &|index| unreduced(&nodes, nodes[index]))?;
+        lowest(24, &|index| undecomposable(&nodes[index], &supports))?;
+        lowest(25, &|index| unreduced(&nodes, &nodes[index]))?;
         Ok(nodes)
     }
 }

@@ -1,11 +1,10 @@
 //! The reader of circuit text: the place of wrong shape (11) from the grammar, the faults 12 to 15 collected one by one over the
 //! part before it, and of all of them the one at the lowest byte.
 
-use super::table::Node;
+use super::table::{Node, MOST_NODES, NODE_WORDS};
 use super::{grammar, refused, Refused};
 
-const MOST_BYTES: usize = 40_000;
-const MOST_NODES: usize = 1_024;
+pub const MOST_BYTES: usize = 110_000;
 const MOST_BRACKETS: usize = 16;
 
 /// The words, brackets and numbers of a text, with their places.
@@ -102,7 +101,7 @@ impl<'a> Walk<'a> {
             b"yes" => Node::Yes(frame.number),
             b"no" => Node::No(frame.number),
             b"pick" => Node::Pick(frame.number, child(0), child(1)),
-            _ => Node::Both(child(0), child(1)),
+            _ => Node::Both(frame.children),
         };
         if self.nodes.len() >= self.room {
             self.faults.push((place, 2, 15));
@@ -127,7 +126,7 @@ pub fn read(text: &[u8], words: &mut [u32]) -> Result<(u32, u32), Refused> {
         return refused(10, MOST_BYTES as u64);
     }
     let shape = grammar::wrong_shape(grammar::TEXT, text);
-    let mut walk = Walk { room: MOST_NODES.min(words.len() / 4), ..Walk::default() };
+    let mut walk = Walk { room: MOST_NODES.min(words.len() / NODE_WORDS), ..Walk::default() };
     for token in tokens(&text[..shape.unwrap_or(text.len())]) {
         walk.token(token);
     }
@@ -135,7 +134,7 @@ pub fn read(text: &[u8], words: &mut [u32]) -> Result<(u32, u32), Refused> {
     if let Some((place, _, number)) = walk.faults.iter().min() {
         return refused(*number, *place as u64);
     }
-    for (part, node) in words.chunks_mut(4).zip(&walk.nodes) {
+    for (part, node) in words.chunks_mut(NODE_WORDS).zip(&walk.nodes) {
         part.copy_from_slice(&node.encode());
     }
     Ok((walk.variables, walk.nodes.len() as u32))

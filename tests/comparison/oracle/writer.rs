@@ -10,7 +10,10 @@ fn line(node: &Node) -> String {
         Node::Yes(variable) => format!("(yes {variable})\n"),
         Node::No(variable) => format!("(no {variable})\n"),
         Node::Pick(variable, a, b) => format!("(pick {variable} (line {a}) (line {b}))\n"),
-        Node::Both(a, b) => format!("(both (line {a}) (line {b}))\n"),
+        Node::Both(children) => {
+            let lines: String = children.iter().map(|child| format!(" (line {child})")).collect();
+            format!("(both{lines})\n")
+        }
     }
 }
 

@@ -13,8 +13,8 @@ Inv-loop columns₀ positives negatives words i₀ i-end columns i =
 abbrev μ-loop : tie.MeasureT-loop
 μ-loop columns₀ positives negatives words i₀ i-end columns i = i-end - i
 
-words-for-requires : tie.Need-words-for-requires Inv-loop μ-loop
-words-for-requires c κs = search needs
+bit-words-requires : tie.Need-bit-words-requires Inv-loop μ-loop
+bit-words-requires c κs = search needs
 
 mul-clear : tie.Need-mul-clear Inv-loop μ-loop
 mul-clear c = search needs
@@ -67,7 +67,7 @@ fill-columns-spec =
     (tie.spec
     Inv-loop
     μ-loop
-    words-for-requires
+    bit-words-requires
     mul-clear
     clear-requires
     loop-holds

@@ -14,8 +14,8 @@ Inv-loop left₀ hints kept count bp bn from t all₀ k₀ k-end left all k = (l
 abbrev μ-loop : tie.MeasureT-loop
 μ-loop left₀ hints kept count bp bn from t all₀ k₀ k-end left all k = k-end - k
 
-words-for-requires : tie.Need-words-for-requires Inv-loop μ-loop
-words-for-requires c κs = search needs
+bit-words-requires : tie.Need-bit-words-requires Inv-loop μ-loop
+bit-words-requires c κs = search needs
 
 clear-requires : tie.Need-clear-requires Inv-loop μ-loop
 clear-requires c κs = search needs
@@ -82,7 +82,7 @@ gather-spec =
     (tie.spec
     Inv-loop
     μ-loop
-    words-for-requires
+    bit-words-requires
     clear-requires
     loop-holds
     mul-t19

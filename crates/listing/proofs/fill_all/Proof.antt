@@ -4,13 +4,14 @@ use Prim.Native.Nat.{ℕ, _-_, _*_, _<_, _≤_}
 use mathlib.Core.Path.{_≡_, sym, ap, subst, _∙_}
 use mathlib.Core.Bool.{Bool, true, false}
 use mathlib.Core.List.{List}
-use native.Mathlib.Nat.{le-refl, lt-of-lt-of-le}
+use native.Mathlib.Nat.{lt-of-lt-of-le}
 use native.Mathlib.Omega.{arith}
 use native.Mathlib.Numerals.{add-one}
 use lib.ListN.{length, set, length-replicate}
 use borrow.Author.Needs.{needs}
-use Rattle.table.specs.Gate.{childAt}
-use Rattle.table.specs.Node.{nodeAt, maxNodes}
+use Rattle.table.specs.Layout.{wordsFor}
+use Rattle.table.specs.Node.{maxNodes}
+use Rattle.table.proofs.Encoding.{node-children}
 use Rattle.terms.specs.declared.Term.{Term}
 use Rattle.circuits.proofs.Accepted.{accepted-e, Accepted}
 use Rattle.circuits.proofs.Largest.{no-more}
@@ -20,11 +21,10 @@ use Rattle.insertion.specs.declared.Kept.{Kept}
 use Rattle.insertion.specs.declared.Kept.the-variants.{Count, Full}
 use Rattle.insertion.proofs.Parts.{kept-count, kept-full}
 use Rattle.nodes.specs.Part.{PartFilled}
-use Rattle.nodes.proofs.Exact.{children-below}
 use Rattle.listing.specs.Listing.{nodePrimes}
 use Rattle.listing.proofs.Bounds.{nodes-some, nodes-le, words-enough}
-use Rattle.listing.proofs.NodeParts.{child-fits, part-given, part-made}
-use Rattle.listing.proofs.Table.{state-start, state-length, state-counts, count-le, state-more}
+use Rattle.listing.proofs.NodeParts.{part-lies, part-given, part-made}
+use Rattle.listing.proofs.Table.{state-start, state-length, state-counts, state-more}
 use Rattle.listing.proofs.Table.{tried-full, tried-all, State}
 use Rattle.listing.proofs.fill_all.Statement.{statement}
 use Rattle.listing.proofs.fill_all.Tie as tie
@@ -44,7 +44,7 @@ abbrev Loop : Type 0
 Loop = tie.At-loop Inv-loop μ-loop
 
 abbrev Called : Type 0
-Called = tie.After-fill-part Inv-loop μ-loop
+Called = tie.After-fill-node Inv-loop μ-loop
 
 abbrev start : Loop → Start
 start a = a .before .before .before .before .before
@@ -54,7 +54,7 @@ abbrev now : Loop → Bool → List ℕ
 now a = bySign (a .loop .positives) (a .loop .negatives)
 
 abbrev then : Called → Bool → List ℕ
-then p = bySign (p .fill-part .last .0) (p .fill-part .last .1 .0)
+then p = bySign (p .fill-node .last .0) (p .fill-node .last .1 .0)
 
 abbrev turn : Called → Loop
 turn p = p .before .before .before .before .before .before .before .before .before .before
@@ -93,7 +93,7 @@ zero-counts : (s : Start) → length (s .args .counts .now) ≡ s .args .n
 zero-counts s = ap length (s .pre .0 .2) ∙ length-replicate (s .args .n) 0
 
 -- the part was filled with the node's prime implicants
-told : (p : Called) (r : Kept) → p .fill-part .result ≡ r
+told : (p : Called) (r : Kept) → p .fill-node .result ≡ r
     → let a = turn p in
     let x = start a .args in
     PartFilled (nodePrimes (x .variables) (x .words .now) (a .loop .i)) (a .loop .i * x .capacity) (x .capacity) (now a) (then p) r
@@ -106,11 +106,12 @@ told p r e =
     let part = q .part-of .result in
     let is = q .part-of .ensures in
     let made = part-made (accepts s) (a .loop .inv .1) (tested p) (s .pre .0 .1) part is in
-    subst (λ (k : Kept). PartFilled (nodePrimes (x .variables) (x .words .now) i) (i * x .capacity) (x .capacity) (now a) (then p) k) e
-    (subst (λ (m : ℕ). PartFilled (nodePrimes (x .variables) (x .words .now) i) m (x .capacity) (now a) (then p) (p .fill-part .result)) (is .at)
-    (subst (λ (m : ℕ). PartFilled (nodePrimes (x .variables) (x .words .now) i) (part .at) m (now a) (then p) (p .fill-part .result))
-    (is .capacity-is)
-    (subst (λ (l : List Term). PartFilled l (part .at) (part .capacity) (now a) (then p) (p .fill-part .result)) made (p .fill-part .ensures))))
+    let own : List Term = nodePrimes (x .variables) (x .words .now) i in
+    let r′ : Kept = p .fill-node .result in
+    subst (PartFilled own (i * x .capacity) (x .capacity) (now a) (then p)) e
+    (subst (λ (m : ℕ). PartFilled own m (x .capacity) (now a) (then p) r′) (is .at)
+    (subst (λ (m : ℕ). PartFilled own (part .at) m (now a) (then p) r′) (is .capacity-is)
+    (subst (λ (l : List Term). PartFilled l (part .at) (part .capacity) (now a) (then p) r′) made (p .fill-node .ensures))))
 
 -- the count that was answered
 count : (c : tie.After-c Inv-loop μ-loop)
@@ -145,24 +146,27 @@ part-of-requires c κs =
     let acc = accepts s in
     let lt : a .loop .i < x .n = w .loop-test .taken in
     let most : x .n ≤ maxNodes = nodes-le acc in
-    let enough : 4 * x .n ≤ length (x .words .now) = words-enough acc in
+    let enough : wordsFor (x .n) ≤ length (x .words .now) = words-enough acc in
     let long : length (a .loop .counts) ≡ x .n = counted a in
-    ((omega arith, s .pre .0 .1, omega arith, omega arith), children-below acc (a .loop .i) lt)
+    let cs = node-children (x .variables) (a .loop .i) (x .words .now) (acc .well (a .loop .i) lt) in (
+      (omega arith, s .pre .0 .1, omega arith),
+      (omega arith, record { few = cs .few; each = λ k l. let q = cs .each k l in omega arith }),
+    )
 
-slice-aggregate-fill-part : tie.Need-slice-aggregate-fill-part Inv-loop μ-loop
-slice-aggregate-fill-part c = sym (c .before .before .before .before .before .before .loop .inv .2 .0)
+slice-aggregate-fill-node : tie.Need-slice-aggregate-fill-node Inv-loop μ-loop
+slice-aggregate-fill-node c = sym (c .before .before .before .before .before .before .loop .inv .2 .0)
 
-slice-aggregate-fill-part-2 : tie.Need-slice-aggregate-fill-part-2 Inv-loop μ-loop
-slice-aggregate-fill-part-2 c = sym (c .before .before .before .before .before .before .before .loop .inv .2 .1)
+slice-aggregate-fill-node-2 : tie.Need-slice-aggregate-fill-node-2 Inv-loop μ-loop
+slice-aggregate-fill-node-2 c = sym (c .before .before .before .before .before .before .before .loop .inv .2 .1)
 
-slice-aggregate-fill-part-3 : tie.Need-slice-aggregate-fill-part-3 Inv-loop μ-loop
-slice-aggregate-fill-part-3 c = sym (c .before .before .before .before .before .before .before .before .loop .inv .2 .2)
+slice-aggregate-fill-node-3 : tie.Need-slice-aggregate-fill-node-3 Inv-loop μ-loop
+slice-aggregate-fill-node-3 c = sym (c .before .before .before .before .before .before .before .before .loop .inv .2 .2)
 
-slice-aggregate-fill-part-4 : tie.Need-slice-aggregate-fill-part-4 Inv-loop μ-loop
-slice-aggregate-fill-part-4 c = sym (c .before .before .before .before .before .before .before .before .before .loop .inv .2 .3)
+slice-aggregate-fill-node-4 : tie.Need-slice-aggregate-fill-node-4 Inv-loop μ-loop
+slice-aggregate-fill-node-4 c = sym (c .before .before .before .before .before .before .before .before .before .loop .inv .2 .3)
 
-fill-part-requires : tie.Need-fill-part-requires Inv-loop μ-loop
-fill-part-requires c κs =
+fill-node-requires : tie.Need-fill-node-requires Inv-loop μ-loop
+fill-node-requires c κs =
     let q = c .before .before .before .before .before .before in
     let w = q .before .before in
     let a = w .before in
@@ -173,23 +177,7 @@ fill-part-requires c κs =
     let st = a .loop .inv .1 in
     let part = q .part-of .result in
     let is = q .part-of .ensures in
-    let (l, m) = children-below acc (a .loop .i) lt in
-    let ca = count-le st lt (childAt (nodeAt (x .words .now) (a .loop .i)) 0) in
-    let cb = count-le st lt (childAt (nodeAt (x .words .now) (a .loop .i)) 1) in (
-      part-given acc st lt (s .pre .0 .1) part is,
-      (
-        (
-          omega (arith, is .capacity-is, s .pre .0 .1),
-          omega (arith, is .capacity-is, is .low-count, ca),
-          omega (arith, is .capacity-is, is .high-count, cb),
-          omega (arith, is .capacity-is, is .low-from, child-fits acc st lt (s .pre .0 .1) _ l true),
-          omega (arith, is .capacity-is, is .high-from, child-fits acc st lt (s .pre .0 .1) _ m true),
-          omega (arith, is .capacity-is, is .at, child-fits acc st lt (s .pre .0 .1) (a .loop .i) (le-refl (a .loop .i)) true),
-          sizes a false ∙ sym (sizes a true),
-        ),
-        a .loop .inv .2,
-      ),
-    )
+    ((part-lies acc st lt (s .pre .0 .1) part is, part-given acc st lt (s .pre .0 .1) part is), a .loop .inv .2)
 
 enum-known-c : tie.Need-enum-known-c Inv-loop μ-loop
 enum-known-c c = search needs
@@ -200,12 +188,12 @@ enum-told c = search needs
 same-length : tie.Need-same-length Inv-loop μ-loop
 same-length c =
     let p = full c in
-    p .fill-part .kept .0 ∙ sizes (turn p) true ∙ sym (zeros (start (turn p)) true)
+    p .fill-node .kept .0 ∙ sizes (turn p) true ∙ sym (zeros (start (turn p)) true)
 
 same-length-2 : tie.Need-same-length-2 Inv-loop μ-loop
 same-length-2 c =
     let p = full c in
-    p .fill-part .kept .1 .0 ∙ sizes (turn p) false ∙ sym (zeros (start (turn p)) false)
+    p .fill-node .kept .1 .0 ∙ sizes (turn p) false ∙ sym (zeros (start (turn p)) false)
 
 same-length-3 : tie.Need-same-length-3 Inv-loop μ-loop
 same-length-3 c =
@@ -269,10 +257,10 @@ loop-again c =
           (set (a .loop .counts) i k) (count d .0) (told p (Count k) (d .c .given .1) .masks (count d .0))
           (ap (set (a .loop .counts) i) (count d .1))),
       (
-        p .fill-part .kept .1 .1 .0 ∙ a .loop .inv .2 .0,
-        p .fill-part .kept .1 .1 .1 .0 ∙ a .loop .inv .2 .1,
-        p .fill-part .kept .1 .1 .1 .1 .0 ∙ a .loop .inv .2 .2,
-        p .fill-part .kept .1 .1 .1 .1 .1 .0 ∙ a .loop .inv .2 .3,
+        p .fill-node .kept .1 .1 .0 ∙ a .loop .inv .2 .0,
+        p .fill-node .kept .1 .1 .1 .0 ∙ a .loop .inv .2 .1,
+        p .fill-node .kept .1 .1 .1 .1 .0 ∙ a .loop .inv .2 .2,
+        p .fill-node .kept .1 .1 .1 .1 .1 .0 ∙ a .loop .inv .2 .3,
       ),
     )
 
@@ -303,11 +291,11 @@ fill-all-spec =
     μ-loop
     loop-holds
     part-of-requires
-    slice-aggregate-fill-part
-    slice-aggregate-fill-part-2
-    slice-aggregate-fill-part-3
-    slice-aggregate-fill-part-4
-    fill-part-requires
+    slice-aggregate-fill-node
+    slice-aggregate-fill-node-2
+    slice-aggregate-fill-node-3
+    slice-aggregate-fill-node-4
+    fill-node-requires
     enum-known-c
     enum-told
     same-length

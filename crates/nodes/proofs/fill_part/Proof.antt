@@ -7,14 +7,12 @@ use native.Mathlib.Omega.{arith}
 use lib.ListN.{length, take, drop}
 use lib.Seq.{length-take-le}
 use borrow.Author.Needs.{needs}
-use Rattle.table.specs.Gate.{gateNode}
 use Rattle.terms.specs.Term.{termsOf}
 use Rattle.terms.specs.declared.Term.{Term}
 use Rattle.insertion.specs.Filled.{bySign, Filled}
 use Rattle.insertion.proofs.Parts.{Even, even}
-use Rattle.table.specs.Node.{Node}
-use Rattle.nodes.specs.Part.{Given, nodeMade, termsFrom}
-use Rattle.nodes.proofs.Parts.{length-part, part-filled}
+use Rattle.nodes.specs.Part.{gateMade, termsFrom}
+use Rattle.nodes.proofs.Parts.{length-part, part-filled, given-there}
 use Rattle.nodes.proofs.fill_part.Statement.{statement}
 use Rattle.nodes.proofs.fill_part.Tie as tie
 
@@ -48,16 +46,20 @@ long-bp q = let s = start q in omega (arith, s .pre .1 .0 .0, s .pre .1 .0 .2, s
 long-bn : (q : tie.After-slice-known10) → start q .args .part .high .count ≤ length (copy-bn q .copy4 .last .0)
 long-bn q = let s = start q in omega (arith, s .pre .1 .0 .0, s .pre .1 .0 .2, s .pre .1 .1 .3, copy-bn q .copy4 .kept .0)
 
-front-ap : (q : tie.After-slice-known10) → length (take (start q .args .part .low .count) (copy-ap q .copy .last .0)) ≡ start q .args .part .low .count
+front-ap : (q : tie.After-slice-known10)
+    → length (take (start q .args .part .low .count) (copy-ap q .copy .last .0)) ≡ start q .args .part .low .count
 front-ap q = length-take-le (start q .args .part .low .count) (copy-ap q .copy .last .0) (long-ap q)
 
-front-an : (q : tie.After-slice-known10) → length (take (start q .args .part .low .count) (copy-an q .copy2 .last .0)) ≡ start q .args .part .low .count
+front-an : (q : tie.After-slice-known10)
+    → length (take (start q .args .part .low .count) (copy-an q .copy2 .last .0)) ≡ start q .args .part .low .count
 front-an q = length-take-le (start q .args .part .low .count) (copy-an q .copy2 .last .0) (long-an q)
 
-front-bp : (q : tie.After-slice-known10) → length (take (start q .args .part .high .count) (copy-bp q .copy3 .last .0)) ≡ start q .args .part .high .count
+front-bp : (q : tie.After-slice-known10)
+    → length (take (start q .args .part .high .count) (copy-bp q .copy3 .last .0)) ≡ start q .args .part .high .count
 front-bp q = length-take-le (start q .args .part .high .count) (copy-bp q .copy3 .last .0) (long-bp q)
 
-front-bn : (q : tie.After-slice-known10) → length (take (start q .args .part .high .count) (copy-bn q .copy4 .last .0)) ≡ start q .args .part .high .count
+front-bn : (q : tie.After-slice-known10)
+    → length (take (start q .args .part .high .count) (copy-bn q .copy4 .last .0)) ≡ start q .args .part .high .count
 front-bn q = length-take-le (start q .args .part .high .count) (copy-bn q .copy4 .last .0) (long-bn q)
 
 -- the buffers, and the node's part of them
@@ -80,13 +82,6 @@ part-size : (s : tie.Start) (b : Bool) → length (part s b) ≡ s .args .part .
 part-size s b =
     ap length (part-is s b)
     ∙ length-part (s .args .part .at) (s .args .part .capacity) (slices s b) (rw (evens s b) (s .pre .1 .0 .5))
-
--- what is given of the children's terms is given of the copies
-given-copied : (y : Node) {l₁ l₂ l₃ l₄ m₁ m₂ m₃ m₄ : List ℕ} → m₁ ≡ l₁ → m₂ ≡ l₂ → m₃ ≡ l₃ → m₄ ≡ l₄ → Given y l₁ l₂ l₃ l₄ → Given y m₁ m₂ m₃ m₄
-given-copied y {l₁} {l₂} {l₃} {l₄} {m₁} {m₂} {m₃} {m₄} e₁ e₂ e₃ e₄ g =
-    subst (λ (z : List ℕ). Given y z m₂ m₃ m₄) (sym e₁)
-    (subst (λ (z : List ℕ). Given y l₁ z m₃ m₄) (sym e₂)
-    (subst (λ (z : List ℕ). Given y l₁ l₂ z m₄) (sym e₃) (subst (λ (z : List ℕ). Given y l₁ l₂ l₃ z) (sym e₄) g)))
 
 copy-requires : tie.Need-copy-requires
 copy-requires c κs = search needs
@@ -159,7 +154,7 @@ make-requires c κs =
     let q = c .before .before .before .before .before .before in
     let s = start q in
     let x = s .args in (
-      given-copied (gateNode (x .part .gate)) (copy-ap q .copy .ensures) (copy-an q .copy2 .ensures) (copy-bp q .copy3 .ensures)
+      given-there (x .part .gate) (copy-ap q .copy .ensures) (copy-an q .copy2 .ensures) (copy-bp q .copy3 .ensures)
           (copy-bn q .copy4 .ensures) (s .pre .0),
       (
         part-size s false ∙ sym (part-size s true),
@@ -195,11 +190,14 @@ returns c =
     let x = s .args in
     let p : Bool → List ℕ = bySign (m .make .last .0) (m .make .last .1 .0) in
     let n : ℕ = x .part .at + x .part .capacity - x .part .at in
-    let copied : nodeMade (gateNode (x .part .gate))
+    let made : List Term =
+    gateMade (x .part .gate) (termsFrom (slices s) (x .part .low .from) (x .part .low .count))
+    (termsFrom (slices s) (x .part .high .from) (x .part .high .count)) in
+    let copied : gateMade (x .part .gate)
     (termsOf (take (x .part .low .count) (copy-ap q .copy .last .0)) (take (x .part .low .count) (copy-an q .copy2 .last .0)))
     (termsOf (take (x .part .high .count) (copy-bp q .copy3 .last .0)) (take (x .part .high .count) (copy-bn q .copy4 .last .0)))
-    ≡ nodeMade (gateNode (x .part .gate)) (termsFrom (slices s) (x .part .low .from) (x .part .low .count)) (termsFrom (slices s) (x .part .high .from) (x .part .high .count)) =
-    λ i. nodeMade (gateNode (x .part .gate)) (termsOf (copy-ap q .copy .ensures i) (copy-an q .copy2 .ensures i))
+    ≡ made =
+    λ i. gateMade (x .part .gate) (termsOf (copy-ap q .copy .ensures i) (copy-an q .copy2 .ensures i))
     (termsOf (copy-bp q .copy3 .ensures i) (copy-bn q .copy4 .ensures i)) in
     let s′ : Bool → List ℕ =
     bySign (take (x .part .at) (slices s true) ++ (p true ++ drop n (drop (x .part .at) (slices s true))))
@@ -212,7 +210,7 @@ returns c =
     let parts : (b : Bool) → bySign (part s true) (part s false) b ≡ take (x .part .capacity) (drop (x .part .at) (slices s b)) =
     λ b. elim b [ true ↦ part-is s true | false ↦ part-is s false ] in
     part-filled
-    (nodeMade (gateNode (x .part .gate)) (termsFrom (slices s) (x .part .low .from) (x .part .low .count)) (termsFrom (slices s) (x .part .high .from) (x .part .high .count))) (x .part .at) (x .part .capacity)
+    made (x .part .at) (x .part .capacity)
     (slices s) (bySign (part s true) (part s false)) p s′ (m .make .result) (s .pre .1 .0 .5) parts whole
     (subst (λ (l : List Term). Filled l (bySign (part s true) (part s false)) p (m .make .result)) copied (m .make .ensures))
 

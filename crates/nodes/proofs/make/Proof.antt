@@ -4,16 +4,15 @@ use mathlib.Core.Path.{_≡_, sym, subst}
 use mathlib.Core.Bool.{Bool}
 use mathlib.Core.List.{List}
 use borrow.Author.Needs.{needs}
-use Rattle.table.specs.Gate.{gateNode}
-use Rattle.table.specs.declared.Gate.{Gate}
-use Rattle.table.specs.declared.Gate.the-variants.{Constant, Literal, Decision, Conjunction, Unknown}
+use Rattle.table.specs.declared.gates.Gate.{Gate}
+use Rattle.table.specs.declared.gates.Gate.the-variants.{Constant, Literal, Decision, Conjunction, Unknown}
 use Rattle.terms.specs.Term.{termsOf}
 use Rattle.terms.specs.declared.Term.{Term}
 use Rattle.insertion.specs.Filled.{bySign, Filled}
 use Rattle.insertion.specs.declared.Kept.{Kept}
 use Rattle.insertion.specs.declared.Kept.the-variants.{Count}
 use Rattle.insertion.proofs.Parts.{even, filled-none}
-use Rattle.nodes.specs.Part.{Given, nodeMade}
+use Rattle.nodes.specs.Part.{Given, gateMade}
 use Rattle.nodes.proofs.Both.{both-made}
 use Rattle.nodes.proofs.make.Statement.{statement}
 use Rattle.nodes.proofs.make.Tie as tie
@@ -24,7 +23,7 @@ slices s = bySign (s .args .positives .now) (s .args .negatives .now)
 abbrev Made : tie.Start → Gate → (Bool → List ℕ) → Kept → Type 0
 Made s g s′ k =
     let x = s .args in
-    Filled (nodeMade (gateNode g) (termsOf (x .ap .now) (x .an .now)) (termsOf (x .bp .now) (x .bn .now))) (slices s) s′ k
+    Filled (gateMade g (termsOf (x .ap .now) (x .an .now)) (termsOf (x .bp .now) (x .bn .now))) (slices s) s′ k
 
 -- what is made for the gate that it is
 made : (s : tie.Start) (g : Gate) (s′ : Bool → List ℕ) (k : Kept) → s .args .gate ≡ g → Made s g s′ k → Made s (s .args .gate) s′ k
@@ -32,10 +31,10 @@ made s g s′ k e h = subst (λ (z : Gate). Made s z s′ k) (sym e) h
 
 -- what is given for it
 given : (s : tie.Start) (g : Gate) → s .args .gate ≡ g
-    → let x = s .args in Given (gateNode g) (x .ap .now) (x .an .now) (x .bp .now) (x .bn .now)
+    → let x = s .args in Given g (x .ap .now) (x .an .now) (x .bp .now) (x .bn .now)
 given s g e =
     let x = s .args in
-    subst (λ (z : Gate). Given (gateNode z) (x .ap .now) (x .an .now) (x .bp .now) (x .bn .now)) e (s .pre .0)
+    subst (λ (z : Gate). Given z (x .ap .now) (x .an .now) (x .bp .now) (x .bn .now)) e (s .pre .0)
 
 abbrev start : tie.After-shared-slice-known4 → tie.Start
 start p = p .before .before .before .before .before .before
@@ -129,9 +128,9 @@ returns-4 c =
     let x = s .args in
     let d = g .enum-told .given in
     let s′ : Bool → List ℕ = bySign (i .conjunction .last .0) (i .conjunction .last .1 .0) in
-    made s (Conjunction (d .0 .0) (d .0 .1 .0)) s′ (i .conjunction .result) (d .1)
+    made s Conjunction s′ (i .conjunction .result) (d .1)
     (subst (λ (l : List Term). Filled l (slices s) s′ (i .conjunction .result))
-    (both-made (given s (Conjunction (d .0 .0) (d .0 .1 .0)) (d .1) .sides)) (i .conjunction .ensures))
+    (both-made (given s Conjunction (d .1) .sides)) (i .conjunction .ensures))
 
 returns-5 : tie.Need-returns-5
 returns-5 c =

@@ -4,12 +4,12 @@ use mathlib.Core.Bool.{false}
 use native.Mathlib.Omega.{arith}
 use borrow.Author.Needs.{needs}
 use Rattle.passes.specs.Implied.{impliedAt}
-use Rattle.passes.proofs.Readable.{Filled, filled-start, filled-next, filled-last}
+use Rattle.passes.proofs.Readable.{FilledTo, filled-start, filled-next, filled-last}
 use Rattle.passes.proofs.implied.Statement.{statement}
 use Rattle.passes.proofs.implied.Tie as tie
 
 abbrev Inv-loop : tie.InvT-loop
-Inv-loop words n t implied₀ i₀ implied i = (i ≤ n) × Filled false (impliedAt words t) i implied
+Inv-loop words n t implied₀ i₀ implied i = (i ≤ n) × FilledTo false (impliedAt words t) i implied
 
 abbrev μ-loop : tie.MeasureT-loop
 μ-loop words n t implied₀ i₀ implied i = n - i

@@ -1,39 +1,36 @@
 -- `passes::models_at` meets its contract.
-use Prim.Native.Nat.{ℕ, _+_, _-_, _*_, _/_, _^_, _<_, _≤_}
-use mathlib.Core.Path.{_≡_, sym, ap, ap₂, subst, _∙_}
+use Prim.Native.Nat.{ℕ, _+_, _-_, _/_, _^_, _<_, _≤_}
+use mathlib.Core.Path.{_≡_, ap₂, _∙_}
 use mathlib.Core.Bool.{true, false, not, cond}
-use native.Mathlib.Omega.{arith}
 use lib.ListN.{getD}
 use borrow.Author.Needs.{needs}
-use Rattle.masks.specs.Mask.{size}
-use Rattle.table.specs.declared.Gate.{Gate}
-use Rattle.table.specs.declared.Gate.the-variants.{Conjunction}
+use Rattle.table.specs.Gate.{gateNode, childList}
+use Rattle.table.specs.declared.gates.Gate.{Gate}
 use Rattle.terms.specs.Term.{has}
 use Rattle.circuits.specs.Function.{function}
-use Rattle.circuits.proofs.BottomUp.{branch-mem}
 use Rattle.passes.specs.Models.{scaled}
-use Rattle.passes.proofs.ModelPass.{gateModels, constant-le, pass-narrow, pass-readable, entry-le, models-array, result-le}
-use Rattle.passes.proofs.ModelPass.{own-le}
-use Rattle.passes.proofs.Readable.{readable-words, gate-fits, gate-bounds, Read}
+use Rattle.passes.proofs.ModelPass.{nodeModels, constant-le, pass-narrow, pass-readable, entry-le, models-array, multiplied}
+use Rattle.passes.proofs.Readable.{readable-words, read-bounds, node-is, gate-fits, gate-bounds, Read}
 use Rattle.passes.proofs.models_at.Statement.{statement}
 use Rattle.passes.proofs.models_at.Tie as tie
 
 abbrev Place : Type 0
-Place = tie.After-gate-at
+Place = tie.After-decode-at
 
 abbrev start : Place → tie.Start
 start p = p .before .before
 
-read : (p : Place) → Read (start p .args .n) (start p .args .words .now) (start p .args .i) (p .gate-at .result)
-read p = record { readable = pass-readable (start p .pre .0 .0); below = start p .pre .0 .1; is = p .gate-at .ensures }
+read : (p : Place) → Read (start p .args .n) (start p .args .words .now) (start p .args .i) (p .decode-at .result)
+read p = record { readable = pass-readable (start p .pre .0 .0); below = start p .pre .0 .1; is = p .decode-at .ensures }
 
-value : (p : Place) {h : Gate} → p .gate-at .result ≡ h
-    → gateModels (start p .args .variables) (start p .args .t) (λ c. getD (start p .args .models .now) c 0)
-    (λ c. getD (start p .args .supports .now) c 0) h
+value : (p : Place) {h : Gate} → p .decode-at .result .gate ≡ h
+    → nodeModels (start p .args .variables) (start p .args .t) (λ c. getD (start p .args .models .now) c 0)
+    (λ c. getD (start p .args .supports .now) c 0) (gateNode h (p .decode-at .result .children))
     ≡ scaled (start p .args .variables) (function (start p .args .words .now) (start p .args .i)) (start p .args .t)
-value p e =
+value p {h} e =
     let s = start p in
-    models-array (s .pre .0 .0) (s .args .i) (s .pre .0 .1) (s .args .models .now) (s .pre .1) (p .gate-at .ensures) e
+    models-array (s .pre .0 .0) (s .args .i) (s .pre .0 .1) (s .args .models .now) (s .pre .1)
+    (gateNode h (p .decode-at .result .children)) (node-is (read p) e)
 
 -- an entry is no larger than all assignments of 40 variables
 entry : (p : Place) (k : ℕ) → k < start p .args .i → getD (start p .args .models .now) k 0 ≤ 2 ^ 40
@@ -43,16 +40,8 @@ entry p k l =
 narrow : (p : Place) → start p .args .variables ≤ 40
 narrow p = pass-narrow (start p .pre .0 .0)
 
--- a conjunction's product
-product-is : (p : Place) (a b own : ℕ) → own ≡ size (getD (start p .args .supports .now) a 0) → p .gate-at .result ≡ Conjunction a b
-    → getD (start p .args .models .now) a 0 / 2 ^ (start p .args .variables - own) * (getD (start p .args .models .now) b 0 / 2 ^ own)
-    ≡ scaled (start p .args .variables) (function (start p .args .words .now) (start p .args .i)) (start p .args .t)
-product-is p a b own q e =
-    let m = start p .args .models .now in
-    ap (λ (k : ℕ). getD m a 0 / 2 ^ (start p .args .variables - k) * (getD m b 0 / 2 ^ k)) q ∙ value p e
-
-gate-at-requires : tie.Need-gate-at-requires
-gate-at-requires c κs =
+decode-at-requires : tie.Need-decode-at-requires
+decode-at-requires c κs =
     let s = c .before in
     readable-words (s .args .n) (s .args .words .now) (pass-readable (s .pre .0 .0)) (s .args .i) (s .pre .0 .1)
 
@@ -110,58 +99,20 @@ average-requires-2 c κs =
       entry p _ (f .2),
     )
 
-enum-known-g-4 : tie.Need-enum-known-g-4
-enum-known-g-4 c = search needs
-
-cast-count-bits : tie.Need-cast-count-bits
-cast-count-bits c = search needs
-
-mul-count-bits : tie.Need-mul-count-bits
-mul-count-bits c = search needs
-
-element-copy-out-count-bits : tie.Need-element-copy-out-count-bits
-element-copy-out-count-bits c = gate-bounds (read (c .before .before .before)) (c .before .g4 .given .1) _ (branch-mem _ _ false)
-
-count-bits-requires : tie.Need-count-bits-requires
-count-bits-requires c κs = search needs
-
-cast-product : tie.Need-cast-product
-cast-product c = search needs
-
-mul-product : tie.Need-mul-product
-mul-product c = search needs
-
-element-copy-out-product : tie.Need-element-copy-out-product
-element-copy-out-product c = gate-bounds (read (c .before .before .before .before .before)) (c .before .before .before .g4 .given .1)
-    _ (branch-mem _ _ false)
-
-cast-product-2 : tie.Need-cast-product-2
-cast-product-2 c = search needs
-
-mul-product-2 : tie.Need-mul-product-2
-mul-product-2 c = search needs
-
-element-copy-out-product-2 : tie.Need-element-copy-out-product-2
-element-copy-out-product-2 c = gate-bounds (read (c .before .before .before .before .before .before))
-    (c .before .before .before .before .g4 .given .1) _ (branch-mem _ _ true)
-
-product-requires : tie.Need-product-requires
-product-requires c κs =
-    let p = c .before .before .before .before .before .before .before in
-    let s = start p in
-    let k = c .before .before .before .before .before .g4 .given .0 in
-    let own = c .before .before .count-bits .ensures in
-    let a : k .0 < s .args .i = gate-fits (read p) (c .before .before .before .before .before .g4 .given .1) _ (branch-mem _ _ false) in
-    let l = s .pre .0 .1 in (
-      narrow p,
-      subst (λ (z : ℕ). z ≤ s .args .variables) (sym own) (own-le (s .pre .0 .0) (k .0) (omega arith)),
-      subst (λ (z : ℕ). z ≤ 2 ^ 40) (sym (product-is p (k .0) (k .1 .0) (c .before .before .count-bits .result) own
-          (c .before .before .before .before .before .g4 .given .1)))
-          (result-le (s .pre .0 .0) (s .args .i) l (s .args .models .now) (s .pre .1)),
-    )
-
 enum-told : tie.Need-enum-told
 enum-told c = search needs
+
+product-of-requires : tie.Need-product-of-requires
+product-of-requires c κs =
+    let p = c .before .before .before in
+    let s = start p in (
+      (read-bounds (read p), narrow p),
+      multiplied (s .pre .0 .0) (s .args .i) (s .pre .0 .1) (s .args .models .now) (s .pre .1)
+          (childList (p .decode-at .result .children)) (node-is (read p) (c .before .enum-told .given .1)),
+    )
+
+enum-told-2 : tie.Need-enum-told-2
+enum-told-2 c = search needs
 
 returns : tie.Need-returns
 returns c = c .constant-models .ensures ∙ value (c .before .before .before .before) (c .before .before .g .given .1)
@@ -182,20 +133,16 @@ returns-3 c = c .average2 .ensures ∙ value (c .before .before .before .before 
 
 returns-4 : tie.Need-returns-4
 returns-4 c =
-    let k = c .before .before .before .before .before .before .g4 .given .0 in
-    c .product .ensures
-    ∙ product-is (c .before .before .before .before .before .before .before .before) (k .0) (k .1 .0)
-    (c .before .before .before .count-bits .result) (c .before .before .before .count-bits .ensures)
-    (c .before .before .before .before .before .before .g4 .given .1)
+    c .product-of .ensures ∙ value (c .before .before .before .before) (c .before .before .enum-told .given .1)
 
 returns-5 : tie.Need-returns-5
-returns-5 c = value (c .before .before) (c .enum-told .given .1)
+returns-5 c = value (c .before .before) (c .enum-told2 .given .1)
 
 pub models-at-spec : {M : Type 1} → statement M
 models-at-spec =
     tie.close
     (tie.spec
-    gate-at-requires
+    decode-at-requires
     enum-known-g
     constant-models-requires
     enum-known-g-2
@@ -210,19 +157,9 @@ models-at-spec =
     mul-average-2
     element-copy-out-average-2
     average-requires-2
-    enum-known-g-4
-    cast-count-bits
-    mul-count-bits
-    element-copy-out-count-bits
-    count-bits-requires
-    cast-product
-    mul-product
-    element-copy-out-product
-    cast-product-2
-    mul-product-2
-    element-copy-out-product-2
-    product-requires
     enum-told
+    product-of-requires
+    enum-told-2
     returns
     returns-2
     returns-3

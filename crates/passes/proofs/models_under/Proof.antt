@@ -6,12 +6,12 @@ use Rattle.table.specs.Words.{Readable}
 use Rattle.circuits.specs.Function.{function}
 use Rattle.passes.specs.Models.{scaled}
 use Rattle.passes.proofs.ModelPass.{accepted-readable, literals-le, unscaled}
-use Rattle.passes.proofs.Readable.{Filled, filled-start, filled-next, filled-last}
+use Rattle.passes.proofs.Readable.{FilledTo, filled-start, filled-next, filled-last}
 use Rattle.passes.proofs.models_under.Statement.{statement}
 use Rattle.passes.proofs.models_under.Tie as tie
 
 abbrev Inv-loop : tie.InvT-loop
-Inv-loop words variables n t supports models₀ i₀ models i = (i ≤ n) × Filled 0 (λ c. scaled variables (function words c) t) i models
+Inv-loop words variables n t supports models₀ i₀ models i = (i ≤ n) × FilledTo 0 (λ c. scaled variables (function words c) t) i models
 
 abbrev μ-loop : tie.MeasureT-loop
 μ-loop words variables n t supports models₀ i₀ models i = n - i

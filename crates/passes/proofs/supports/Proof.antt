@@ -3,12 +3,12 @@ use Prim.Native.Nat.{_-_, _<_, _≤_}
 use native.Mathlib.Omega.{arith}
 use borrow.Author.Needs.{needs}
 use Rattle.circuits.specs.Function.{support}
-use Rattle.passes.proofs.Readable.{Filled, filled-start, filled-next, filled-all}
+use Rattle.passes.proofs.Readable.{FilledTo, filled-start, filled-next, filled-all}
 use Rattle.passes.proofs.supports.Statement.{statement}
 use Rattle.passes.proofs.supports.Tie as tie
 
 abbrev Inv-loop : tie.InvT-loop
-Inv-loop words n supports₀ i₀ supports i = (i ≤ n) × Filled 0 (support words) i supports
+Inv-loop words n supports₀ i₀ supports i = (i ≤ n) × FilledTo 0 (support words) i supports
 
 abbrev μ-loop : tie.MeasureT-loop
 μ-loop words n supports₀ i₀ supports i = n - i

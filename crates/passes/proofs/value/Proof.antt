@@ -4,12 +4,12 @@ use mathlib.Core.Bool.{false}
 use native.Mathlib.Omega.{arith}
 use borrow.Author.Needs.{needs}
 use Rattle.circuits.specs.Function.{function}
-use Rattle.passes.proofs.Readable.{Filled, filled-start, filled-next, filled-last}
+use Rattle.passes.proofs.Readable.{FilledTo, filled-start, filled-next, filled-last}
 use Rattle.passes.proofs.value.Statement.{statement}
 use Rattle.passes.proofs.value.Tie as tie
 
 abbrev Inv-loop : tie.InvT-loop
-Inv-loop words n s values₀ i₀ values i = (i ≤ n) × Filled false (λ c. function words c s) i values
+Inv-loop words n s values₀ i₀ values i = (i ≤ n) × FilledTo false (λ c. function words c s) i values
 
 abbrev μ-loop : tie.MeasureT-loop
 μ-loop words n s values₀ i₀ values i = n - i

@@ -1,34 +1,33 @@
 -- `passes::value_at` meets its contract.
 use Prim.Native.Nat.{ℕ}
 use mathlib.Core.Path.{_≡_, sym, ap, _∙_}
-use mathlib.Core.Bool.{Bool, true, false, not, cond}
+use mathlib.Core.Bool.{Bool, false, not, cond}
 use lib.ListN.{getD}
 use borrow.Author.Needs.{needs}
 use Rattle.masks.specs.Mask.{bit}
 use Rattle.table.specs.Gate.{gateNode}
-use Rattle.table.specs.declared.Gate.{Gate}
+use Rattle.table.specs.declared.gates.Gate.{Gate}
 use Rattle.circuits.specs.Function.{signed, nodeValue, function}
-use Rattle.circuits.proofs.BottomUp.{branch-mem}
-use Rattle.passes.proofs.Readable.{readable-words, gate-bounds, value-from, all-two, Read}
+use Rattle.passes.proofs.Readable.{readable-words, read-bounds, gate-bounds, value-from, Read}
 use Rattle.passes.proofs.value_at.Statement.{statement}
 use Rattle.passes.proofs.value_at.Tie as tie
 
 abbrev Place : Type 0
-Place = tie.After-gate-at
+Place = tie.After-decode-at
 
 abbrev start : Place → tie.Start
 start p = p .before .before
 
-read : (p : Place) → Read (start p .args .n) (start p .args .words .now) (start p .args .i) (p .gate-at .result)
-read p = record { readable = start p .pre .0; below = start p .pre .1; is = p .gate-at .ensures }
+read : (p : Place) → Read (start p .args .n) (start p .args .words .now) (start p .args .i) (p .decode-at .result)
+read p = record { readable = start p .pre .0; below = start p .pre .1; is = p .decode-at .ensures }
 
-value : (p : Place) {h : Gate} → p .gate-at .result ≡ h
-    → nodeValue (start p .args .s) (gateNode h) (λ c. getD (start p .args .values .now) c false)
+value : (p : Place) {h : Gate} → p .decode-at .result .gate ≡ h
+    → nodeValue (start p .args .s) (gateNode h (p .decode-at .result .children)) (λ c. getD (start p .args .values .now) c false)
     ≡ function (start p .args .words .now) (start p .args .i) (start p .args .s)
 value p e = value-from (read p) e (start p .args .s) (start p .args .values .now) (start p .pre .2)
 
-gate-at-requires : tie.Need-gate-at-requires
-gate-at-requires c κs = readable-words (c .before .args .n) (c .before .args .words .now) (c .before .pre .0) (c .before .args .i)
+decode-at-requires : tie.Need-decode-at-requires
+decode-at-requires c κs = readable-words (c .before .args .n) (c .before .args .words .now) (c .before .pre .0) (c .before .args .i)
     (c .before .pre .1)
 
 enum-known-g : tie.Need-enum-known-g
@@ -61,24 +60,14 @@ cast-result-2 c = search needs
 element-copy-out-result-2 : tie.Need-element-copy-out-result-2
 element-copy-out-result-2 c = gate-bounds (read (c .before .before .before .before .before)) (c .before .before .before .g3 .given .1) .1
 
-enum-known-g-4 : tie.Need-enum-known-g-4
-enum-known-g-4 c = search needs
-
-cast-result-3 : tie.Need-cast-result-3
-cast-result-3 c = search needs
-
-element-copy-out-result-3 : tie.Need-element-copy-out-result-3
-element-copy-out-result-3 c = gate-bounds (read (c .before .before .before)) (c .before .g4 .given .1) _ (branch-mem _ _ false)
-
-cast-result-4 : tie.Need-cast-result-4
-cast-result-4 c = search needs
-
-element-copy-out-result-4 : tie.Need-element-copy-out-result-4
-element-copy-out-result-4 c = gate-bounds (read (c .before .before .before .before)) (c .before .before .g4 .given .1) _
-    (branch-mem _ _ true)
-
 enum-told : tie.Need-enum-told
 enum-told c = search needs
+
+all-of-requires : tie.Need-all-of-requires
+all-of-requires c κs = read-bounds (read (c .before .before .before))
+
+enum-told-2 : tie.Need-enum-told-2
+enum-told-2 c = search needs
 
 returns : tie.Need-returns
 returns c = value (c .before .before .before) (c .before .g .given .1)
@@ -115,19 +104,16 @@ returns-5 c =
 
 returns-6 : tie.Need-returns-6
 returns-6 c =
-    let v = start (c .before .before .before .before .before) .args .values .now in
-    let k = c .before .before .before .g4 .given .0 in
-    all-two (λ i. getD v i false) (k .0) (k .1 .0) ∙ value (c .before .before .before .before .before)
-    (c .before .before .before .g4 .given .1)
+    c .all-of .ensures ∙ value (c .before .before .before .before) (c .before .before .enum-told .given .1)
 
 returns-7 : tie.Need-returns-7
-returns-7 c = value (c .before .before) (c .enum-told .given .1)
+returns-7 c = value (c .before .before) (c .enum-told2 .given .1)
 
 pub value-at-spec : {M : Type 1} → statement M
 value-at-spec =
     tie.close
     (tie.spec
-    gate-at-requires
+    decode-at-requires
     enum-known-g
     enum-known-g-2
     has-bit-requires
@@ -138,12 +124,9 @@ value-at-spec =
     element-copy-out-result
     cast-result-2
     element-copy-out-result-2
-    enum-known-g-4
-    cast-result-3
-    element-copy-out-result-3
-    cast-result-4
-    element-copy-out-result-4
     enum-told
+    all-of-requires
+    enum-told-2
     returns
     returns-2
     returns-3

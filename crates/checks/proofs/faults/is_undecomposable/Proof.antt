@@ -1,33 +1,32 @@
 -- `checks::faults::is_undecomposable` meets its contract.
-use mathlib.Core.Path.{_≡_, refl, ap, ap₂, _∙_}
-use mathlib.Core.Bool.{true, false, not, _||_}
+use mathlib.Core.Path.{_≡_, ap, ap₂, _∙_}
+use mathlib.Core.Bool.{not, _||_}
 use lib.ListN.{getD}
 use borrow.Author.Needs.{needs}
 use Rattle.table.specs.Gate.{gateNode}
-use Rattle.table.specs.declared.Gate.{Gate}
+use Rattle.table.specs.declared.gates.Gate.{Gate}
 use Rattle.circuits.specs.Check.{nodeMeets, undecomposable}
-use Rattle.circuits.proofs.BottomUp.{branch-mem}
-use Rattle.passes.proofs.Readable.{readable-words, gate-bounds, Read}
-use Rattle.checks.proofs.Rules.{meets-from, meets-two}
+use Rattle.passes.proofs.Readable.{readable-words, read-bounds, gate-bounds, Read}
+use Rattle.checks.proofs.Rules.{meets-from}
 use Rattle.checks.proofs.faults.is_undecomposable.Statement.{statement}
 use Rattle.checks.proofs.faults.is_undecomposable.Tie as tie
 
 abbrev Place : Type 0
-Place = tie.After-gate-at
+Place = tie.After-decode-at
 
 abbrev start : Place → tie.Start
 start p = p .before .before
 
-read : (p : Place) → Read (start p .args .n) (start p .args .words .now) (start p .args .i) (p .gate-at .result)
-read p = record { readable = start p .pre .0; below = start p .pre .1; is = p .gate-at .ensures }
+read : (p : Place) → Read (start p .args .n) (start p .args .words .now) (start p .args .i) (p .decode-at .result)
+read p = record { readable = start p .pre .0; below = start p .pre .1; is = p .decode-at .ensures }
 
-value : (p : Place) {h : Gate} → p .gate-at .result ≡ h
-    → nodeMeets (λ c. getD (start p .args .supports .now) c 0) (gateNode h) ≡ undecomposable (start p .args .words .now)
-    (start p .args .i)
+value : (p : Place) {h : Gate} → p .decode-at .result .gate ≡ h
+    → nodeMeets (λ c. getD (start p .args .supports .now) c 0) (gateNode h (p .decode-at .result .children))
+    ≡ undecomposable (start p .args .words .now) (start p .args .i)
 value p e = meets-from (read p) e (start p .args .supports .now) (start p .pre .2)
 
-gate-at-requires : tie.Need-gate-at-requires
-gate-at-requires c κs = readable-words (c .before .args .n) (c .before .args .words .now) (c .before .pre .0) (c .before .args .i)
+decode-at-requires : tie.Need-decode-at-requires
+decode-at-requires c κs = readable-words (c .before .args .n) (c .before .args .words .now) (c .before .pre .0) (c .before .args .i)
     (c .before .pre .1)
 
 enum-told : tie.Need-enum-told
@@ -64,33 +63,14 @@ has-bit-requires-2 : tie.Need-has-bit-requires-2
 has-bit-requires-2 c κs = gate-bounds (read (c .before .before .before .before .before .before))
     (c .before .before .before .before .g .given .1) .0
 
-enum-known-g-2 : tie.Need-enum-known-g-2
-enum-known-g-2 c = search needs
-
-cast-is-disjoint : tie.Need-cast-is-disjoint
-cast-is-disjoint c = search needs
-
-mul-is-disjoint : tie.Need-mul-is-disjoint
-mul-is-disjoint c = search needs
-
-element-copy-out-is-disjoint : tie.Need-element-copy-out-is-disjoint
-element-copy-out-is-disjoint c = gate-bounds (read (c .before .before .before)) (c .before .g2 .given .1) _ (branch-mem _ _ false)
-
-cast-is-disjoint-2 : tie.Need-cast-is-disjoint-2
-cast-is-disjoint-2 c = search needs
-
-mul-is-disjoint-2 : tie.Need-mul-is-disjoint-2
-mul-is-disjoint-2 c = search needs
-
-element-copy-out-is-disjoint-2 : tie.Need-element-copy-out-is-disjoint-2
-element-copy-out-is-disjoint-2 c = gate-bounds (read (c .before .before .before .before)) (c .before .before .g2 .given .1) _
-    (branch-mem _ _ true)
-
-is-disjoint-requires : tie.Need-is-disjoint-requires
-is-disjoint-requires c κs = search needs
-
 enum-told-3 : tie.Need-enum-told-3
 enum-told-3 c = search needs
+
+are-disjoint-requires : tie.Need-are-disjoint-requires
+are-disjoint-requires c κs = read-bounds (read (c .before .before .before))
+
+enum-told-4 : tie.Need-enum-told-4
+enum-told-4 c = search needs
 
 returns : tie.Need-returns
 returns c = value (c .before .before) (c .enum-told .given .1)
@@ -105,19 +85,16 @@ returns-3 c =
 
 returns-4 : tie.Need-returns-4
 returns-4 c =
-    let p = c .before .before .before .before .before .before in
-    let k = c .before .before .before .before .g2 .given in
-    ap not (c .is-disjoint .ensures)
-    ∙ meets-two (read p) (k .1) (start p .args .supports .now) (start p .pre .2) (k .0 .0) (k .0 .1 .0) refl
+    ap not (c .are-disjoint .ensures) ∙ value (c .before .before .before .before) (c .before .before .enum-told3 .given .1)
 
 returns-5 : tie.Need-returns-5
-returns-5 c = value (c .before .before) (c .enum-told3 .given .1)
+returns-5 c = value (c .before .before) (c .enum-told4 .given .1)
 
 pub is-undecomposable-spec : {M : Type 1} → statement M
 is-undecomposable-spec =
     tie.close
     (tie.spec
-    gate-at-requires
+    decode-at-requires
     enum-told
     enum-told-2
     enum-known-g
@@ -129,15 +106,9 @@ is-undecomposable-spec =
     mul-has-bit-2
     element-copy-out-has-bit-2
     has-bit-requires-2
-    enum-known-g-2
-    cast-is-disjoint
-    mul-is-disjoint
-    element-copy-out-is-disjoint
-    cast-is-disjoint-2
-    mul-is-disjoint-2
-    element-copy-out-is-disjoint-2
-    is-disjoint-requires
     enum-told-3
+    are-disjoint-requires
+    enum-told-4
     returns
     returns-2
     returns-3

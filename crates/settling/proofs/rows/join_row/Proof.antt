@@ -8,7 +8,7 @@ use lib.ListN.{length, length-replicate}
 use Rattle.terms.specs.Term.{termsOf}
 use Rattle.terms.specs.declared.Term.{Term}
 use Rattle.lists.specs.Scans.{termAt}
-use Rattle.hints.specs.Scratch.{maxWords, wordsFor, HasColumns}
+use Rattle.hints.specs.Scratch.{maxWords, bitWords, HasColumns}
 use Rattle.insertion.specs.Filled.{bySign}
 use Rattle.settling.specs.Growth.{Grown}
 use Rattle.settling.specs.Sides.{leastJoins, Settled}
@@ -90,8 +90,8 @@ sizes a = so-far-length (start a .pre .0) (a .loop .inv .0)
 term-at-requires : tie.Need-term-at-requires Inv-loop μ-loop
 term-at-requires c κs = search needs
 
-words-for-requires : tie.Need-words-for-requires Inv-loop μ-loop
-words-for-requires c κs = search needs
+bit-words-requires : tie.Need-bit-words-requires Inv-loop μ-loop
+bit-words-requires c κs = search needs
 
 loop-holds : tie.Need-loop-holds Inv-loop μ-loop
 loop-holds c =
@@ -109,7 +109,7 @@ try-kept-requires c κs =
     let a = w .before in
     let h = a .loop .inv .0 in
     let g = start a .pre .0 in
-    let fits : HasColumns (wordsFor (length (start a .args .bp .now))) (a .loop .columns) = rw (a .loop .inv .4) (start a .pre .1 .1) in
+    let fits : HasColumns (bitWords (length (start a .args .bp .now))) (a .loop .columns) = rw (a .loop .inv .4) (start a .pre .1 .1) in
     (h .room, h .keeps .room, fits, a .loop .inv .2, g .at .even-high, g .at .few-high, w .loop-test .taken)
 
 settle-requires : tie.Need-settle-requires Inv-loop μ-loop
@@ -168,9 +168,9 @@ spread-new-requires c κs =
     let q = tried p in
     let a = turn q in (
       told p (To (k .before .next .given .0 .0)) (k .before .next .given .1) .1 .room,
-      a .before .words-for .ensures .1,
+      a .before .bit-words .ensures .1,
       q .try-kept .kept .1 .1 .1 .0 ∙ a .loop .inv .2,
-      rw (a .before .words-for .ensures .0, q .try-kept .kept .1 .1 .0, a .loop .inv .4) (start a .pre .1 .1),
+      rw (a .before .bit-words .ensures .0, q .try-kept .kept .1 .1 .0, a .loop .inv .4) (start a .pre .1 .1),
     )
 
 add-j : tie.Need-add-j Inv-loop μ-loop
@@ -225,7 +225,7 @@ join-row-spec =
     Inv-loop
     μ-loop
     term-at-requires
-    words-for-requires
+    bit-words-requires
     loop-holds
     slice-aggregate-try-kept
     try-kept-requires

@@ -8,7 +8,7 @@ use borrow.Author.Needs.{needs}
 use borrow.Author.Tests.{eq-eqb, ne-eqb}
 use Rattle.text.specs.Places.{SpelledRuns, OpeningRuns}
 use Rattle.text.specs.Read.{byteAt, wordAt, wordThen, headAt}
-use Rattle.text.specs.Words.{wordsFor}
+use Rattle.text.specs.Words.{headWords}
 use Rattle.text.specs.declared.answer.Fault.the-variants.{Shape}
 use Rattle.text.specs.declared.head.Limits.{Limits}
 use Rattle.text.specs.declared.head.Opening.{Opening}
@@ -24,14 +24,14 @@ module _ (s : List ℕ) (at : ℕ) (role : Role) (g : Limits) (b : ℕ) (eb : b 
   unfolding headAt
   shape h = rw (← eb, ne-eqb b (code "(") h)
 
-  word : b ≡ code "(" → (x : Spelled) → x ≡ wordAt s (at + 1) (wordsFor role) → wordThen s g x ≡ headAt s at role g
+  word : b ≡ code "(" → (x : Spelled) → x ≡ wordAt s (at + 1) (headWords role) → wordThen s g x ≡ headAt s at role g
   unfolding headAt
   word h x e = rw (← eb, eq-eqb b (code "(") h, ← e)
 
 later : (s : List ℕ) (at to earlier : ℕ) → at ≤ to → (x : Opening) → OpeningRuns s to earlier x → OpeningRuns s at earlier x
 later s at to earlier l (Broken f p) r = tt
 later s at to earlier l (Leaf k x p) r = omega arith
-later s at to earlier l (Inner k x p) r = omega arith
+later s at to earlier l (Inner op p) r = omega arith
 later s at to earlier l (Line k p) r = omega arith
 
 byte-at-requires : tie.Need-byte-at-requires

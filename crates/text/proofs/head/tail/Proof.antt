@@ -6,12 +6,13 @@ use mathlib.Core.Path.{_≡_, sym, ap, subst, _∙_}
 use native.Mathlib.Omega.{arith}
 use borrow.Author.Needs.{needs}
 use Rattle.text.specs.Places.{RangedRuns}
-use Rattle.text.specs.Read.{rangedAt, literalAt, innerOf, lineOf, tailAt}
+use Rattle.text.specs.Read.{rangedAt, literalAt, decisionOf, lineOf, tailAt}
 use Rattle.text.specs.declared.answer.Fault.the-variants.{Range, Reference}
 use Rattle.text.specs.declared.head.InRange.{InRange}
 use Rattle.text.specs.declared.head.Limits.{Limits}
 use Rattle.text.specs.declared.head.Opening.{Opening}
 use Rattle.text.specs.declared.head.Opening.the-variants.{Leaf, Inner}
+use Rattle.text.specs.declared.head.Operator.the-variants.{Conjunction}
 use Rattle.text.specs.declared.head.Word.{Word}
 use Rattle.text.specs.declared.head.Word.the-variants.{False, True, Yes, No, Pick, Both, Line}
 use Rattle.text.proofs.head.tail.Statement.{statement}
@@ -35,11 +36,11 @@ module _ (s : List ℕ) (at : ℕ) (g : Limits) (word : Word) where
   unfolding tailAt
   no-word e r f = rw e f
 
-  pick-word : word ≡ Pick → (x : InRange) → x ≡ rangedAt s at 0 (g .variables) (code " ") Range → innerOf 4 x ≡ tailAt s at word g
+  pick-word : word ≡ Pick → (x : InRange) → x ≡ rangedAt s at 0 (g .variables) (code " ") Range → decisionOf x ≡ tailAt s at word g
   unfolding tailAt
-  pick-word e x f = rw e (ap (innerOf 4) f)
+  pick-word e x f = rw e (ap decisionOf f)
 
-  both-word : word ≡ Both → Inner 5 0 at ≡ tailAt s at word g
+  both-word : word ≡ Both → Inner Conjunction at ≡ tailAt s at word g
   unfolding tailAt
   both-word e = rw e
 

@@ -1,13 +1,13 @@
 -- `text_reader::lines::lines` meets its contract. The invariant: what is left to read from line k on is the whole reading.
 use Prim.Native.Char.{code}
-use Prim.Native.Nat.{ℕ, suc, _+_, _-_, _*_, _<_, _≤_}
+use Prim.Native.Nat.{ℕ, suc, _+_, _-_, _<_, _≤_}
 use mathlib.Core.List.{List}
 use mathlib.Core.Path.{_≡_, refl, sym, subst, _∙_}
 use native.Mathlib.Omega.{arith}
 use lib.ListN.{length, set, replicate, length-set}
 use borrow.Author.Needs.{needs}
 use borrow.Author.Tests.{eq-eqb, ne-eqb}
-use Rattle.table.specs.Node.{nodeWords}
+use Rattle.table.specs.Layout.{wordsFor}
 use Rattle.table.specs.Outcome.{Outcome}
 use Rattle.text.specs.Limits.{maxLines}
 use Rattle.text.specs.Places.{StepRuns, ReadIs}
@@ -88,7 +88,7 @@ form-requires c κs =
     let at-loop = c .before .before .before in
     let at-room-of = at-loop .before in
     let i = at-loop .loop .inv in
-    let l : nodeWords * at-room-of .room-of .result ≤ length (at-loop .loop .words) = omega
+    let l : wordsFor (at-room-of .room-of .result) ≤ length (at-loop .loop .words) = omega
     (arith, i .2, at-room-of .room-of .ensures .2) in
     let k : at-loop .loop .k ≤ length (at-loop .loop .nodes) = omega (arith, i .3) in
     (i .1, record { enough = l; few = at-room-of .room-of .ensures .1; known = k })

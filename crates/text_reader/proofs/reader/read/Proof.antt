@@ -8,7 +8,7 @@ use borrow.Author.Needs.{needs}
 use borrow.Author.Tests.{lt-ltb, le-ltb}
 use Rattle.table.specs.Outcome.{answered, refused}
 use Rattle.text.specs.Answers.{faultNumber, readingOf}
-use Rattle.text.specs.Limits.{maxLines}
+use Rattle.text.specs.Limits.{maxBytes, maxLines}
 use Rattle.text.specs.Places.{HeaderRuns, ReadIs}
 use Rattle.text.specs.Read.{linesAt, headerAt, roomOf, readText, ReadOut}
 use Rattle.text.specs.declared.answer.Fault.{Fault}
@@ -19,14 +19,14 @@ use Rattle.text_reader.proofs.reader.read.Statement.{statement}
 use Rattle.text_reader.proofs.reader.read.Tie as tie
 
 module _ (s : List ℕ) (m : ℕ) (v : List ℕ) where
-  long : 40000 < length s → v ≡ replicate m 0 → ReadIs (Refused Length 40000) v (readText s m)
+  long : maxBytes < length s → v ≡ replicate m 0 → ReadIs (Refused Length maxBytes) v (readText s m)
   unfolding readText
-  long h z = rw (lt-ltb 40000 (length s) h) (refl, z)
+  long h z = rw (lt-ltb maxBytes (length s) h) (refl, z)
 
-  module _ (h : length s ≤ 40000) where
+  module _ (h : length s ≤ maxBytes) where
     unfit : (f : Fault) (p : ℕ) → Unfit f p ≡ headerAt s → v ≡ replicate m 0 → ReadIs (Refused f p) v (readText s m)
     unfolding readText
-    unfit f p e z = rw (le-ltb 40000 (length s) h, ← e) (refl, z)
+    unfit f p e z = rw (le-ltb maxBytes (length s) h, ← e) (refl, z)
 
     -- the lines are read into the words w, all 0
     module _ (N p : ℕ) (e : Inside N p ≡ headerAt s) (w : List ℕ) (l : length w ≡ m) (z : w ≡ replicate m 0) where
@@ -38,14 +38,14 @@ module _ (s : List ℕ) (m : ℕ) (v : List ℕ) where
       accepted x n i j =
           let a = rw (l, z) at i in
           let b = rw (l, z) at j in
-          rw (le-ltb 40000 (length s) h, ← e, ← a, ← b) (refl, refl)
+          rw (le-ltb maxBytes (length s) h, ← e, ← a, ← b) (refl, refl)
 
       cleared : (f : Fault) (q : ℕ) → refused (faultNumber f) q ≡ read .answer → v ≡ replicate m 0
           → ReadIs (Refused f q) v (readText s m)
       unfolding readText
       cleared f q i y =
           let a = rw (l, z) at i in
-          rw (le-ltb 40000 (length s) h, ← e, ← a) (refl, y)
+          rw (le-ltb maxBytes (length s) h, ← e, ← a) (refl, y)
 
 zero-words-requires : tie.Need-zero-words-requires
 zero-words-requires c κs = search needs

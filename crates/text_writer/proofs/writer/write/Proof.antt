@@ -3,7 +3,7 @@ use Prim.Native.Nat.{ℕ}
 use mathlib.Core.Path.{_≡_, refl, sym, ap, subst, _∙_}
 use mathlib.Core.List.{List}
 use borrow.Author.Needs.{needs}
-use Rattle.table.specs.Outcome.{accepted, Outcome, refusedBy, checked}
+use Rattle.table.specs.Outcome.{accepted, Outcome, checked}
 use Rattle.table.specs.Words.{checkWords}
 use Rattle.table.specs.declared.Checked.{Checked}
 use Rattle.table.specs.declared.Refusal.{Refusal}
@@ -41,8 +41,7 @@ enum-told c = search needs
 write-fitting-requires : tie.Need-write-fitting-requires
 write-fitting-requires c κs =
     let told = c .before in
-    let s = words-sound _ _ _ (goes-on (told .before .before .check-words .ensures) (told .enum-told .given .1)) in
-    (s .words, s .nodes)
+    (_, words-sound _ _ _ (goes-on (told .before .before .check-words .ensures) (told .enum-told .given .1)))
 
 returns : tie.Need-returns
 returns c = refuses _ _ _ _ (c .before .before .before .check-words .ensures) (c .before .why .given .1)

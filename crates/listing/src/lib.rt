@@ -7,7 +7,8 @@ ghost use Rattle.table.specs.Outcome.{accepted};
 ghost use Rattle.circuits.specs.Check.{check};
 ghost use Rattle.lists.specs.Capacity.{maxCapacity};
 ghost use Rattle.insertion.specs.Filled.{bySign};
-ghost use Rattle.listing.specs.Exact.{Tried, Exact};
+ghost use Rattle.nodes.specs.Part.{HasPlace};
+ghost use Rattle.listing.specs.Exact.{smallCapacity, Zeroed, Tried, Exact};
 ghost use Rattle.listing.specs.Listing.{lent, ListResult, suffices, viewed};
 use buffers::zero_masks;
 use buffers::zero_words;
@@ -16,6 +17,9 @@ use lists::MAX_CAPACITY;
 use table::Checked;
 use table::MAX_NODES;
 use table::Refusal;
+
+// The capacity up to which scratch is small.
+const SMALL: usize = 256;
 
 // What a listing answers; specs/Listing.antt has the scope's numbers.
 pub enum Listing {
@@ -54,38 +58,35 @@ fn clear(positives: &mut [u64], negatives: &mut [u64], counts: &mut [u32])
     zero_words(counts);
 }
 
+// What is listed: how many variables and nodes the circuit has, and the capacity of a node's part.
+struct Shape {
+    variables: u32,
+    nodes: usize,
+    capacity: usize,
+}
+
 // Fills the nodes' parts of buffers of zeros, the lowest node first; false where a node has more terms than the capacity.
-// `variables` is there for the contract; ap, an, bp and bn are scratch for the terms of a node's children, made once for all nodes.
-fn fill_all(
+// ap, an, bp and bn are scratch for the terms of a node's children: what they hold before and after is left free.
+fn fill_nodes(
     positives: &mut [u64],
     negatives: &mut [u64],
     counts: &mut [u32],
+    ap: &mut [u64],
+    an: &mut [u64],
+    bp: &mut [u64],
+    bn: &mut [u64],
     words: &[u32],
-    variables: u32,
-    n: usize,
-    capacity: usize,
+    shape: Shape,
 ) -> bool
-    requires { ⌜ (check variables n (now words) ≡ accepted) × (capacity ≤ maxCapacity) × (now counts ≡ replicate n 0) ⌝ }
-    requires { ⌜ (now positives ≡ replicate (n * capacity) 0) × (now negatives ≡ replicate (n * capacity) 0) ⌝ }
-    ensures { λ r. ⌜ Tried variables n (now (words .entry)) capacity (bySign (now (positives .exit)) (now (negatives .exit)))
-        (now (counts .exit)) r ⌝ }
+    requires { ⌜ Zeroed shape (now words) (bySign (now positives) (now negatives)) (now counts) ⌝ }
+    requires { ⌜ HasPlace (shape .capacity) (now ap) (now an) (now bp) (now bn) ⌝ }
+    ensures { λ r. ⌜ Tried (shape .variables) (shape .nodes) (now (words .entry)) (shape .capacity)
+        (bySign (now (positives .exit)) (now (negatives .exit))) (now (counts .exit)) r ⌝ }
 {
-    let mut ap = [0u64; MAX_CAPACITY as usize];
-    let mut an = [0u64; MAX_CAPACITY as usize];
-    let mut bp = [0u64; MAX_CAPACITY as usize];
-    let mut bn = [0u64; MAX_CAPACITY as usize];
     let mut i = 0;
-    while i < n {
-        let part = nodes::part_of(words, counts, i, capacity);
-        let Kept::Count(c) = nodes::fill_node(
-            positives,
-            negatives,
-            &mut ap,
-            &mut an,
-            &mut bp,
-            &mut bn,
-            part,
-        ) else {
+    while i < shape.nodes {
+        let part = nodes::part_of(words, counts, i, shape.capacity);
+        let Kept::Count(c) = nodes::fill_node(positives, negatives, ap, an, bp, bn, part) else {
             return false;
         };
         counts[i] = c as u32;
@@ -94,23 +95,98 @@ fn fill_all(
     true
 }
 
+// Fills the nodes' parts, with scratch for a small capacity.
+fn fill_small(
+    positives: &mut [u64],
+    negatives: &mut [u64],
+    counts: &mut [u32],
+    words: &[u32],
+    shape: Shape,
+) -> bool
+    requires { ⌜ Zeroed shape (now words) (bySign (now positives) (now negatives)) (now counts) × (shape .capacity ≤ smallCapacity) ⌝ }
+    ensures { λ r. ⌜ Tried (shape .variables) (shape .nodes) (now (words .entry)) (shape .capacity)
+        (bySign (now (positives .exit)) (now (negatives .exit))) (now (counts .exit)) r ⌝ }
+{
+    let mut ap = [0u64; SMALL];
+    let mut an = [0u64; SMALL];
+    let mut bp = [0u64; SMALL];
+    let mut bn = [0u64; SMALL];
+    fill_nodes(
+        positives,
+        negatives,
+        counts,
+        &mut ap,
+        &mut an,
+        &mut bp,
+        &mut bn,
+        words,
+        shape,
+    )
+}
+
+// Fills the nodes' parts, with scratch for any capacity.
+fn fill_large(
+    positives: &mut [u64],
+    negatives: &mut [u64],
+    counts: &mut [u32],
+    words: &[u32],
+    shape: Shape,
+) -> bool
+    requires { ⌜ Zeroed shape (now words) (bySign (now positives) (now negatives)) (now counts) ⌝ }
+    ensures { λ r. ⌜ Tried (shape .variables) (shape .nodes) (now (words .entry)) (shape .capacity)
+        (bySign (now (positives .exit)) (now (negatives .exit))) (now (counts .exit)) r ⌝ }
+{
+    let mut ap = [0u64; MAX_CAPACITY as usize];
+    let mut an = [0u64; MAX_CAPACITY as usize];
+    let mut bp = [0u64; MAX_CAPACITY as usize];
+    let mut bn = [0u64; MAX_CAPACITY as usize];
+    fill_nodes(
+        positives,
+        negatives,
+        counts,
+        &mut ap,
+        &mut an,
+        &mut bp,
+        &mut bn,
+        words,
+        shape,
+    )
+}
+
+// Fills the nodes' parts. Scratch is zeroed when it is made, so that a small capacity has little.
+fn fill_all(
+    positives: &mut [u64],
+    negatives: &mut [u64],
+    counts: &mut [u32],
+    words: &[u32],
+    shape: Shape,
+) -> bool
+    requires { ⌜ Zeroed shape (now words) (bySign (now positives) (now negatives)) (now counts) ⌝ }
+    ensures { λ r. ⌜ Tried (shape .variables) (shape .nodes) (now (words .entry)) (shape .capacity)
+        (bySign (now (positives .exit)) (now (negatives .exit))) (now (counts .exit)) r ⌝ }
+{
+    if shape.capacity <= SMALL {
+        return fill_small(positives, negatives, counts, words, shape);
+    }
+    fill_large(positives, negatives, counts, words, shape)
+}
+
 // Lists in buffers of just the needed length, and zeroes them where the circuit has more prime implicants than the capacity.
 fn list_exact(
     positives: &mut [u64],
     negatives: &mut [u64],
     counts: &mut [u32],
     words: &[u32],
-    variables: u32,
-    n: usize,
-    capacity: usize,
+    shape: Shape,
 ) -> bool
-    requires { ⌜ (check variables n (now words) ≡ accepted) × (capacity ≤ maxCapacity) × (length (now counts) ≡ n) ⌝ }
-    requires { ⌜ (length (now positives) ≡ n * capacity) × (length (now negatives) ≡ n * capacity) ⌝ }
-    ensures { λ r. ⌜ Exact variables n (now (words .entry)) capacity (bySign (now (positives .exit)) (now (negatives .exit)))
-        (now (counts .exit)) r ⌝ }
+    requires { ⌜ (check (shape .variables) (shape .nodes) (now words) ≡ accepted) × (shape .capacity ≤ maxCapacity)
+        × (length (now counts) ≡ shape .nodes) ⌝ }
+    requires { ⌜ (length (now positives) ≡ shape .nodes * shape .capacity) × (length (now negatives) ≡ shape .nodes * shape .capacity) ⌝ }
+    ensures { λ r. ⌜ Exact (shape .variables) (shape .nodes) (now (words .entry)) (shape .capacity)
+        (bySign (now (positives .exit)) (now (negatives .exit))) (now (counts .exit)) r ⌝ }
 {
     clear(positives, negatives, counts);
-    if fill_all(positives, negatives, counts, words, variables, n, capacity) {
+    if fill_all(positives, negatives, counts, words, shape) {
         return true;
     }
     clear(positives, negatives, counts);
@@ -154,14 +230,17 @@ fn list_accepted(
         return Listing::Refused(Refusal::Buffers);
     }
     let total = n * capacity;
+    let shape = Shape {
+        variables,
+        nodes: n,
+        capacity,
+    };
     if list_exact(
         &mut positives[..total],
         &mut negatives[..total],
         &mut counts[..n],
         words,
-        variables,
-        n,
-        capacity,
+        shape,
     ) {
         return Listing::Listed;
     }

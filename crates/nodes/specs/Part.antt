@@ -39,6 +39,10 @@ Given (Decision x a b) ap an bp bn = DecidedAt x ap an bp bn
 Given Conjunction ap an bp bn = SidesAt ap an bp bn
 Given Unknown ap an bp bn = Unit {0}
 
+-- the scratch has place for two lists of so many terms
+abbrev pub HasPlace : ℕ → List ℕ → List ℕ → List ℕ → List ℕ → Type 0
+HasPlace capacity ap an bp bn = (capacity ≤ length ap) × (capacity ≤ length an) × (capacity ≤ length bp) × (capacity ≤ length bn)
+
 -- the count terms that stand from `at` on
 abbrev pub termsFrom : (Bool → List ℕ) → ℕ → ℕ → List Term
 termsFrom s at count = termsOf (take count (drop at (s true))) (take count (drop at (s false)))

@@ -12,7 +12,7 @@ ghost use Rattle.terms.specs.Term.{empty, extend, termsOf};
 ghost use Rattle.lists.specs.Capacity.{maxCapacity};
 ghost use Rattle.insertion.specs.Filled.{bySign, Filled};
 ghost use Rattle.nodes.specs.Part.{gateMade, nodeMade, Given, NodeGiven, termsFrom, childFrom, childSize, childTerms, Laid};
-ghost use Rattle.nodes.specs.Part.{PartFilled, Sized, IsPart, lastPlace};
+ghost use Rattle.nodes.specs.Part.{PartFilled, Sized, IsPart, lastPlace, HasPlace};
 use insertion::Kept;
 use table::gates::Gate;
 use table::gates::decode_at;
@@ -115,8 +115,7 @@ fn fill_part(
     requires { ⌜ (part .capacity ≤ maxCapacity) × (part .low .count ≤ part .capacity) × (part .high .count ≤ part .capacity)
         × (part .low .from + part .capacity ≤ length (now positives)) × (part .high .from + part .capacity ≤ length (now positives))
         × (part .at + part .capacity ≤ length (now positives)) × (length (now negatives) ≡ length (now positives)) ⌝ }
-    requires { ⌜ (length (now ap) ≡ maxCapacity) × (length (now an) ≡ maxCapacity) × (length (now bp) ≡ maxCapacity)
-        × (length (now bn) ≡ maxCapacity) ⌝ }
+    requires { ⌜ HasPlace (part .capacity) (now ap) (now an) (now bp) (now bn) ⌝ }
     ensures { λ r. ⌜ PartFilled
         (gateMade (part .gate) (termsFrom (bySign (now (positives .entry)) (now (negatives .entry))) (part .low .from) (part .low .count))
         (termsFrom (bySign (now (positives .entry)) (now (negatives .entry))) (part .high .from) (part .high .count)))
@@ -197,8 +196,7 @@ pub fn fill_node(
 ) -> Kept
     requires { ⌜ Laid (bySign (now positives) (now negatives)) part
         × NodeGiven (bySign (now positives) (now negatives)) part (part .gate) ⌝ }
-    requires { ⌜ (length (now ap) ≡ maxCapacity) × (length (now an) ≡ maxCapacity) × (length (now bp) ≡ maxCapacity)
-        × (length (now bn) ≡ maxCapacity) ⌝ }
+    requires { ⌜ HasPlace (part .capacity) (now ap) (now an) (now bp) (now bn) ⌝ }
     ensures { λ r. ⌜ PartFilled
         (nodeMade (part .gate) (part .children .count) (childTerms (bySign (now (positives .entry)) (now (negatives .entry))) part))
         (part .at) (part .capacity) (bySign (now (positives .entry)) (now (negatives .entry)))

@@ -28,13 +28,17 @@ fill-all-requires c κs =
     let k = c .before .before .before .before .before .before .before .before .before in
     let s = start k in
     let x = s .args in
-    let z = k .clear .ensures in (
-      (s .pre .0 .0, s .pre .0 .1, zeros-of (x .n) (k .clear .last .1 .1 .0) (x .counts .now) (z .2) (s .pre .0 .2)),
-      (
-        zeros-of (x .n * x .capacity) (k .clear .last .0) (x .positives .now) (z .0) (s .pre .1 .0),
-        zeros-of (x .n * x .capacity) (k .clear .last .1 .0) (x .negatives .now) (z .1) (s .pre .1 .1),
-      ),
-    )
+    let h = x .shape in
+    let z = k .clear .ensures in
+    record {
+      accepts = s .pre .0 .0;
+      small = s .pre .0 .1;
+      masks = λ b. elim b [
+        | true ↦ zeros-of (h .nodes * h .capacity) (k .clear .last .0) (x .positives .now) (z .0) (s .pre .1 .0)
+        | false ↦ zeros-of (h .nodes * h .capacity) (k .clear .last .1 .0) (x .negatives .now) (z .1) (s .pre .1 .1)
+      ];
+      counts = zeros-of (h .nodes) (k .clear .last .1 .1 .0) (x .counts .now) (z .2) (s .pre .0 .2);
+    }
 
 same-length : tie.Need-same-length
 same-length c = search needs
@@ -49,7 +53,7 @@ returns : tie.Need-returns
 returns c =
     let f = c .before .before .before .before .before .before .before in
     let x = start (cleared f) .args in
-    exact-all (x .variables) (x .n) (x .words .now) (x .capacity) (buffers f) (f .fill-all .last .1 .1 .0) (f .fill-all .result)
+    exact-all (x .shape .variables) (x .shape .nodes) (x .words .now) (x .shape .capacity) (buffers f) (f .fill-all .last .1 .1 .0) (f .fill-all .result)
     (f .fill-all .ensures) (c .if1 .taken)
 
 clear-requires-2 : tie.Need-clear-requires-2
@@ -73,16 +77,16 @@ returns-2 c =
     let s = start k in
     let x = s .args in
     let d = z .clear2 .ensures in
-    let p : length (f .fill-all .last .0) ≡ x .n * x .capacity = f .fill-all .kept .0 ∙ k .clear .kept .0 ∙ s .pre .1 .0 in
-    let q : length (f .fill-all .last .1 .0) ≡ x .n * x .capacity = f .fill-all .kept .1 .0 ∙ k .clear .kept .1 .0 ∙ s .pre .1 .1 in
-    let m : length (f .fill-all .last .1 .1 .0) ≡ x .n = f .fill-all .kept .1 .1 .0 ∙ k .clear .kept .1 .1 .0 ∙ s .pre .0 .2 in
-    exact-none (x .variables) (x .n) (x .words .now) (x .capacity) (buffers f) (f .fill-all .last .1 .1 .0) (f .fill-all .result)
+    let p : length (f .fill-all .last .0) ≡ x .shape .nodes * x .shape .capacity = f .fill-all .kept .0 ∙ k .clear .kept .0 ∙ s .pre .1 .0 in
+    let q : length (f .fill-all .last .1 .0) ≡ x .shape .nodes * x .shape .capacity = f .fill-all .kept .1 .0 ∙ k .clear .kept .1 .0 ∙ s .pre .1 .1 in
+    let m : length (f .fill-all .last .1 .1 .0) ≡ x .shape .nodes = f .fill-all .kept .1 .1 .0 ∙ k .clear .kept .1 .1 .0 ∙ s .pre .0 .2 in
+    exact-none (x .shape .variables) (x .shape .nodes) (x .words .now) (x .shape .capacity) (buffers f) (f .fill-all .last .1 .1 .0) (f .fill-all .result)
     (f .fill-all .ensures) (bySign (z .clear2 .last .0) (z .clear2 .last .1 .0)) (z .clear2 .last .1 .1 .0) (e .if1 .left)
     (λ b. elim b [
-      | true ↦ zeros-of (x .n * x .capacity) (z .clear2 .last .0) (f .fill-all .last .0) (d .0) p
-      | false ↦ zeros-of (x .n * x .capacity) (z .clear2 .last .1 .0) (f .fill-all .last .1 .0) (d .1) q
+      | true ↦ zeros-of (x .shape .nodes * x .shape .capacity) (z .clear2 .last .0) (f .fill-all .last .0) (d .0) p
+      | false ↦ zeros-of (x .shape .nodes * x .shape .capacity) (z .clear2 .last .1 .0) (f .fill-all .last .1 .0) (d .1) q
     ])
-    (zeros-of (x .n) (z .clear2 .last .1 .1 .0) (f .fill-all .last .1 .1 .0) (d .2) m)
+    (zeros-of (x .shape .nodes) (z .clear2 .last .1 .1 .0) (f .fill-all .last .1 .1 .0) (d .2) m)
 
 pub list-exact-spec : {M : Type 1} → statement M
 list-exact-spec =

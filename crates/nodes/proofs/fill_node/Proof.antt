@@ -5,10 +5,9 @@ use mathlib.Core.Bool.{Bool, true, false}
 use mathlib.Core.List.{List}
 use native.Mathlib.Omega.{arith}
 use lib.ListN.{length}
-use Rattle.lists.specs.Capacity.{maxCapacity}
 use Rattle.insertion.specs.Filled.{bySign}
 use Rattle.insertion.specs.declared.Kept.the-variants.{Full}
-use Rattle.nodes.specs.Part.{PartFilled}
+use Rattle.nodes.specs.Part.{PartFilled, HasPlace}
 use Rattle.nodes.proofs.Filling.{last-some, last-below, filling-start, filling-long, filling-few, filling-end, Filling}
 use Rattle.nodes.proofs.Filling.{filling-more, filling-full, turn-rooms, turn-given}
 use borrow.Author.Needs.{needs}
@@ -18,7 +17,7 @@ use Rattle.nodes.proofs.fill_node.Tie as tie
 abbrev Inv-loop : tie.InvT-loop
 Inv-loop positives₀ negatives₀ ap₀ an₀ bp₀ bn₀ part gate k₀ high₀ positives negatives ap an bp bn k high =
     Filling (bySign positives₀ negatives₀) part k (bySign positives negatives) high
-    × (length ap ≡ maxCapacity) × (length an ≡ maxCapacity) × (length bp ≡ maxCapacity) × (length bn ≡ maxCapacity)
+    × (length ap ≡ length ap₀) × (length an ≡ length an₀) × (length bp ≡ length bp₀) × (length bn ≡ length bn₀)
 
 abbrev μ-loop : tie.MeasureT-loop
 μ-loop positives₀ negatives₀ ap₀ an₀ bp₀ bn₀ part gate k₀ high₀ positives negatives ap an bp bn k high =
@@ -71,6 +70,14 @@ long q b =
     let s = start l in
     filling-long (lent s) (s .args .part) (s .pre .0 .0) (s .pre .0 .1) (l .loop .k) (now l) (l .loop .high) (l .loop .inv .0) b
 
+-- so does the scratch, with place for two children's terms
+has-place : (l : Loop)
+    → HasPlace (start l .args .part .capacity) (l .loop .ap) (l .loop .an) (l .loop .bp) (l .loop .bn)
+has-place l =
+    let p = start l .pre .1 in
+    let i = l .loop .inv in
+    (omega (arith, p .0, i .1), omega (arith, p .1, i .2), omega (arith, p .2, i .3), omega (arith, p .3, i .4))
+
 last-place-requires : tie.Need-last-place-requires Inv-loop μ-loop
 last-place-requires c κs =
     let s = c .before .before .before .before .before .before .before in
@@ -88,10 +95,10 @@ loop-holds c =
     let s = c .before .before .before .before .before .before .before .before .before in (
       filling-start (lent s) (s .args .part) (s .pre .0 .0) (s .pre .0 .1) (c .before .last-place .result) (c .child-at .result)
           (c .before .last-place .ensures) (c .child-at .ensures .0) (c .child-at .ensures .1),
-      s .pre .1 .0,
-      s .pre .1 .1,
-      s .pre .1 .2,
-      s .pre .1 .3,
+      refl,
+      refl,
+      refl,
+      refl,
     )
 
 sub-k : tie.Need-sub-k Inv-loop μ-loop
@@ -118,7 +125,7 @@ fill-part-requires c κs =
       turn-given (lent s) x (s .pre .0 .0) (s .pre .0 .1) (l .loop .k - 1) (now l) (l .loop .high) low f n j,
       (
         (s .pre .0 .0 .small, r .0, r .1, r .2, r .3, r .4, r .5),
-        (l .loop .inv .1, l .loop .inv .2, l .loop .inv .3, l .loop .inv .4),
+        has-place l,
       ),
     )
 
@@ -135,16 +142,16 @@ same-length-2 : tie.Need-same-length-2 Inv-loop μ-loop
 same-length-2 c = let q = over c in q .fill-part .kept .1 .0 ∙ long q false
 
 same-length-3 : tie.Need-same-length-3 Inv-loop μ-loop
-same-length-3 c = let q = over c in q .fill-part .kept .1 .1 .0 ∙ turn q .loop .inv .1 ∙ sym (start (turn q) .pre .1 .0)
+same-length-3 c = let q = over c in q .fill-part .kept .1 .1 .0 ∙ turn q .loop .inv .1
 
 same-length-4 : tie.Need-same-length-4 Inv-loop μ-loop
-same-length-4 c = let q = over c in q .fill-part .kept .1 .1 .1 .0 ∙ turn q .loop .inv .2 ∙ sym (start (turn q) .pre .1 .1)
+same-length-4 c = let q = over c in q .fill-part .kept .1 .1 .1 .0 ∙ turn q .loop .inv .2
 
 same-length-5 : tie.Need-same-length-5 Inv-loop μ-loop
-same-length-5 c = let q = over c in q .fill-part .kept .1 .1 .1 .1 .0 ∙ turn q .loop .inv .3 ∙ sym (start (turn q) .pre .1 .2)
+same-length-5 c = let q = over c in q .fill-part .kept .1 .1 .1 .1 .0 ∙ turn q .loop .inv .3
 
 same-length-6 : tie.Need-same-length-6 Inv-loop μ-loop
-same-length-6 c = let q = over c in q .fill-part .kept .1 .1 .1 .1 .1 .0 ∙ turn q .loop .inv .4 ∙ sym (start (turn q) .pre .1 .3)
+same-length-6 c = let q = over c in q .fill-part .kept .1 .1 .1 .1 .1 .0 ∙ turn q .loop .inv .4
 
 returns : tie.Need-returns Inv-loop μ-loop
 returns c =
@@ -189,16 +196,16 @@ same-length-8 c =
     filling-long (lent s) (s .args .part) (s .pre .0 .0) (s .pre .0 .1) (l .loop .k) (now l) (l .loop .high) (l .loop .inv .0) false
 
 same-length-9 : tie.Need-same-length-9 Inv-loop μ-loop
-same-length-9 c = let l = c .before in l .loop .inv .1 ∙ sym (start l .pre .1 .0)
+same-length-9 c = c .before .loop .inv .1
 
 same-length-10 : tie.Need-same-length-10 Inv-loop μ-loop
-same-length-10 c = let l = c .before in l .loop .inv .2 ∙ sym (start l .pre .1 .1)
+same-length-10 c = c .before .loop .inv .2
 
 same-length-11 : tie.Need-same-length-11 Inv-loop μ-loop
-same-length-11 c = let l = c .before in l .loop .inv .3 ∙ sym (start l .pre .1 .2)
+same-length-11 c = c .before .loop .inv .3
 
 same-length-12 : tie.Need-same-length-12 Inv-loop μ-loop
-same-length-12 c = let l = c .before in l .loop .inv .4 ∙ sym (start l .pre .1 .3)
+same-length-12 c = c .before .loop .inv .4
 
 returns-2 : tie.Need-returns-2 Inv-loop μ-loop
 returns-2 c =

@@ -35,16 +35,16 @@ start q =
 
 -- each scratch slice has place for the terms that were copied, and its front holds just them
 long-ap : (q : tie.After-slice-known10) → start q .args .part .low .count ≤ length (copy-ap q .copy .last .0)
-long-ap q = let s = start q in omega (arith, s .pre .1 .0 .0, s .pre .1 .0 .1, s .pre .1 .1 .0, copy-ap q .copy .kept .0)
+long-ap q = let s = start q in omega (arith, s .pre .1 .0 .1, s .pre .1 .1 .0, copy-ap q .copy .kept .0)
 
 long-an : (q : tie.After-slice-known10) → start q .args .part .low .count ≤ length (copy-an q .copy2 .last .0)
-long-an q = let s = start q in omega (arith, s .pre .1 .0 .0, s .pre .1 .0 .1, s .pre .1 .1 .1, copy-an q .copy2 .kept .0)
+long-an q = let s = start q in omega (arith, s .pre .1 .0 .1, s .pre .1 .1 .1, copy-an q .copy2 .kept .0)
 
 long-bp : (q : tie.After-slice-known10) → start q .args .part .high .count ≤ length (copy-bp q .copy3 .last .0)
-long-bp q = let s = start q in omega (arith, s .pre .1 .0 .0, s .pre .1 .0 .2, s .pre .1 .1 .2, copy-bp q .copy3 .kept .0)
+long-bp q = let s = start q in omega (arith, s .pre .1 .0 .2, s .pre .1 .1 .2, copy-bp q .copy3 .kept .0)
 
 long-bn : (q : tie.After-slice-known10) → start q .args .part .high .count ≤ length (copy-bn q .copy4 .last .0)
-long-bn q = let s = start q in omega (arith, s .pre .1 .0 .0, s .pre .1 .0 .2, s .pre .1 .1 .3, copy-bn q .copy4 .kept .0)
+long-bn q = let s = start q in omega (arith, s .pre .1 .0 .2, s .pre .1 .1 .3, copy-bn q .copy4 .kept .0)
 
 front-ap : (q : tie.After-slice-known10)
     → length (take (start q .args .part .low .count) (copy-ap q .copy .last .0)) ≡ start q .args .part .low .count
@@ -96,7 +96,7 @@ copy-requires-4 : tie.Need-copy-requires-4
 copy-requires-4 c κs =
     let s = c .before .before .before .before .before .before .before .before .before .before .before .before .before .before .before .before .before .before .before .before .before .before .before .before .before .before in
     let p = s .pre .1 .0 in
-    (omega (arith, p .2, p .4, p .6), omega (arith, p .0, p .2, s .pre .1 .1 .3))
+    (omega (arith, p .2, p .4, p .6), omega (arith, p .2, s .pre .1 .1 .3))
 
 add-end : tie.Need-add-end
 add-end c = search needs

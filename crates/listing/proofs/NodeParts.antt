@@ -1,8 +1,7 @@
 -- A node's part of the buffers, and its children's terms there, as the table of listed nodes gives them.
-use Prim.Native.Nat.{ℕ, _+_, _*_, _≤_, _<_, zero-le}
-use mathlib.Core.Path.{_≡_, sym, ap, ap₂, subst, _∙_}
+use Prim.Native.Nat.{ℕ, _+_, _*_, _≤_, _<_}
+use mathlib.Core.Path.{_≡_, sym, ap, subst, _∙_}
 use mathlib.Core.Bool.{Bool, true, false}
-use mathlib.Core.Logic.{⊎-elim}
 use mathlib.Core.List.{List}
 use native.Mathlib.Nat.{le-refl, le-trans, le-of-eq, mul-le-mul-right, suc-mul}
 use native.Mathlib.Numerals.{add-one}
@@ -14,7 +13,6 @@ use Rattle.table.specs.Node.{maxNodes}
 use Rattle.table.specs.declared.gates.Decoded.{Decoded}
 use Rattle.table.specs.declared.layout.Children.{Children}
 use Rattle.table.proofs.Encoding.{node-children, child-word}
-use Rattle.table.proofs.NodePlaces.{lt-or-le}
 use Rattle.circuits.proofs.Accepted.{Accepted}
 use Rattle.lists.specs.Capacity.{maxCapacity}
 use Rattle.nodes.specs.Part.{nodeMade, NodeGiven, childFrom, childSize, childTerms, termsFrom, Laid, IsPart}
@@ -22,7 +20,7 @@ use Rattle.nodes.specs.declared.NodePart.{NodePart}
 use Rattle.nodes.proofs.Exact.{given, made-exact}
 use Rattle.listing.specs.Listing.{nodePrimes}
 use Rattle.listing.proofs.Bounds.{nodes-le}
-use Rattle.listing.proofs.Table.{State, state-length, count-le, terms-back}
+use Rattle.listing.proofs.Table.{State, state-length, state-counts, count-le, terms-back}
 
 module _ {N n : ℕ} {w : List ℕ} (acc : Accepted N n w) {R i : ℕ} {s : Bool → List ℕ} {cs : List ℕ} (st : State N w R n i s cs) (lt : i < n)
     (small : R ≤ maxCapacity) where
@@ -44,7 +42,7 @@ module _ {N n : ℕ} {w : List ℕ} (acc : Accepted N n w) {R i : ℕ} {s : Bool
       let m : (a + 1) * R ≤ i * R = mul-le-mul-right R (omega arith) in
       omega (arith, m, ap (λ (k : ℕ). k * R) (add-one a) ∙ suc-mul a R)
 
-  module _ (p : NodePart) (is : IsPart w cs i R p) where
+  module _ (p : NodePart) (is : IsPart w i R p) where
     same : p .children ≡ wordsAt w i .children
     same = ap (λ (z : Decoded). z .children) (is .node)
 
@@ -57,16 +55,13 @@ module _ {N n : ℕ} {w : List ℕ} (acc : Accepted N n w) {R i : ℕ} {s : Bool
     from-is : (j : ℕ) → childFrom p j ≡ getD (p .children .nodes) j 0 * R
     from-is j = ap (λ (m : ℕ). getD (p .children .nodes) j 0 * m) (is .capacity-is)
 
-    size-le : (j : ℕ) → childSize p j ≤ R
-    size-le j =
-        ⊎-elim
-        (λ (l : j < p .children .count). le-trans (le-of-eq (is .sized .used j l)) (count-le st lt (getD (p .children .nodes) j 0)))
-        (λ (l : p .children .count ≤ j). le-trans (le-of-eq (is .sized .unused j l)) zero-le)
-        (lt-or-le j (p .children .count))
+    size-le : (j : ℕ) → childSize cs p j ≤ R
+    size-le j = count-le st lt (getD (p .children .nodes) j 0)
 
-    pub part-lies : Laid s p
+    pub part-lies : Laid s cs p
     part-lies =
         let most : n ≤ maxNodes = nodes-le acc in
+        let long : length cs ≡ n = state-counts st (omega arith) in
         record {
           small = omega (arith, is .capacity-is);
           inside = omega (arith, is .capacity-is, is .at, part-fits i (le-refl i) true);
@@ -75,17 +70,18 @@ module _ {N n : ℕ} {w : List ℕ} (acc : Accepted N n w) {R i : ℕ} {s : Bool
           sizes = λ j. omega (arith, is .capacity-is, size-le j);
           below = λ j l.
               omega (arith, is .capacity-is, is .at, from-is j, part-before (getD (p .children .nodes) j 0) (children .each j l));
-          words = λ j. omega (arith, word-le j);
+          nodes = le-trans (le-of-eq long) most;
+          words = λ j. omega (arith, word-le j, long);
           there = λ j. omega (arith, is .capacity-is, from-is j, part-fits (getD (p .children .nodes) j 0) (word-le j) true);
         }
 
-    listed : (j : ℕ) → j < p .children .count → childTerms s p j ≡ nodePrimes N w (getD (p .children .nodes) j 0)
+    listed : (j : ℕ) → j < p .children .count → childTerms s cs p j ≡ nodePrimes N w (getD (p .children .nodes) j 0)
     listed j l =
-        ap₂ (termsFrom s) (from-is j) (is .sized .used j l)
+        ap (λ (from : ℕ). termsFrom s from (childSize cs p j)) (from-is j)
         ∙ terms-back st lt (getD (p .children .nodes) j 0) (children .each j l)
 
-    pub part-given : NodeGiven s p (p .gate)
-    part-given = given acc i lt s p (is .node) part-lies listed
+    pub part-given : NodeGiven s cs p (p .gate)
+    part-given = given acc i lt s cs p (is .node) part-lies listed
 
-    pub part-made : nodeMade (p .gate) (p .children .count) (childTerms s p) ≡ nodePrimes N w i
-    part-made = made-exact acc i lt s p (is .node) part-lies listed
+    pub part-made : nodeMade (p .gate) (p .children .count) (childTerms s cs p) ≡ nodePrimes N w i
+    part-made = made-exact acc i lt s cs p (is .node) part-lies listed

@@ -85,8 +85,9 @@ fn fill_nodes(
 {
     let mut i = 0;
     while i < shape.nodes {
-        let part = nodes::part_of(words, counts, i, shape.capacity);
-        let Kept::Count(c) = nodes::fill_node(positives, negatives, ap, an, bp, bn, part) else {
+        let part = nodes::part_of(words, i, shape.capacity);
+        let Kept::Count(c) = nodes::fill_node(positives, negatives, ap, an, bp, bn, counts, part)
+        else {
             return false;
         };
         counts[i] = c as u32;

@@ -30,10 +30,10 @@ length-from s from n h e =
     let q : length (take n (drop from (s false))) ≡ n = length-part from n (s false) (omega arith) in
     length-terms (take n (drop from (s true))) (take n (drop from (s false))) (q ∙ sym p) ∙ p
 
-module _ (s : Bool → List ℕ) (p : NodePart) where
+module _ (s : Bool → List ℕ) (counts : List ℕ) (p : NodePart) where
   -- the joins of the children from place k on
   abbrev pub after : ℕ → List Term
-  after k = joined (childTerms s p) k (p .children .count - k)
+  after k = joined (childTerms s counts p) k (p .children .count - k)
 
   -- the buffers s′ hold these joins where `high` says, and are s but for the part
   pub record Joining (k : ℕ) (s′ : Bool → List ℕ) (high : Terms) : Type 0 where
@@ -47,9 +47,9 @@ module _ (s : Bool → List ℕ) (p : NodePart) where
     pub there : high .from + p .capacity ≤ length (s true)
     pub whole : k + 2 ≤ p .children .count → list ≡ after k
 
-module _ (s : Bool → List ℕ) (p : NodePart) (lies : Laid s p) (given : Conjoined (childTerms s p) (p .children .count)) where
+module _ (s : Bool → List ℕ) (counts : List ℕ) (p : NodePart) (lies : Laid s counts p) (given : Conjoined (childTerms s counts p) (p .children .count)) where
   abbrev v : ℕ → List Term
-  v = childTerms s p
+  v = childTerms s counts p
 
   abbrev count : ℕ
   count = p .children .count
@@ -58,17 +58,17 @@ module _ (s : Bool → List ℕ) (p : NodePart) (lies : Laid s p) (given : Conjo
   inside true = lies .inside
   inside false = let e = lies .even in let i = lies .inside in omega arith
 
-  all-after : after s p 0 ≡ joined v 0 count
+  all-after : after s counts p 0 ≡ joined v 0 count
   all-after = let d : count - 0 ≡ count = omega arith in ap (joined v 0) d
 
-  one-after : (k : ℕ) → k + 1 ≡ count → after s p k ≡ v k
+  one-after : (k : ℕ) → k + 1 ≡ count → after s counts p k ≡ v k
   one-after k e = let d : count - k ≡ 1 = omega arith in ap (joined v k) d
 
-  pub joining-start : (k : ℕ) (high : Terms) → k + 1 ≡ count → high .from ≡ childFrom p k → high .count ≡ childSize p k
-      → Joining s p k s high
+  pub joining-start : (k : ℕ) (high : Terms) → k + 1 ≡ count → high .from ≡ childFrom p k → high .count ≡ childSize counts p k
+      → Joining s counts p k s high
   joining-start k high e f c =
       let low : childFrom p k + p .capacity ≤ p .at = lies .below k (omega arith) in
-      let few : childSize p k ≤ p .capacity = lies .sizes k in
+      let few : childSize counts p k ≤ p .capacity = lies .sizes k in
       let i = lies .inside in
       record {
         some = omega arith;
@@ -76,14 +76,14 @@ module _ (s : Bool → List ℕ) (p : NodePart) (lies : Laid s p) (given : Conjo
         over = λ b. sym (laid-nil (p .at) (p .capacity) (s b) (inside b));
         short = zero-le;
         terms = ap₂ (termsFrom s) f c ∙ sym (one-after k e);
-        size = c ∙ sym (length-from s (childFrom p k) (childSize p k) (omega arith) (lies .even)) ∙ ap length (sym (one-after k e));
+        size = c ∙ sym (length-from s (childFrom p k) (childSize counts p k) (omega arith) (lies .even)) ∙ ap length (sym (one-after k e));
         room = omega arith;
         there = omega arith;
         whole = λ h. absurd (omega arith);
       }
 
   -- the buffers keep their lengths
-  pub kept-here : (k : ℕ) (s′ : Bool → List ℕ) (high : Terms) → Joining s p k s′ high → (b : Bool) → length (s′ b) ≡ length (s b)
+  pub kept-here : (k : ℕ) (s′ : Bool → List ℕ) (high : Terms) → Joining s counts p k s′ high → (b : Bool) → length (s′ b) ≡ length (s b)
   kept-here k s′ high j b =
       let few : length (masksOf b (j .list)) ≤ p .capacity =
       let h = j .short in let z = j .size in let r = j .room in omega (arith, length-masks b (j .list)) in
@@ -97,29 +97,29 @@ module _ (s : Bool → List ℕ) (p : NodePart) (lies : Laid s p) (given : Conjo
     two : k + suc (suc left) ≡ count
     two = omega arith
 
-    after-next : after s p (suc k) ≡ joined v (suc k) (suc left)
+    after-next : after s counts p (suc k) ≡ joined v (suc k) (suc left)
     after-next = let d : count - suc k ≡ suc (count - suc (suc k)) = omega arith in ap (joined v (suc k)) d
 
-    pub after-this : after s p k ≡ sort before (joins (v k) (after s p (suc k)))
+    pub after-this : after s counts p k ≡ sort before (joins (v k) (after s counts p (suc k)))
     after-this =
         let d : count - k ≡ suc (suc (count - suc (suc k))) = omega arith in
         ap (joined v k) d ∙ ap (λ (l : List Term). sort before (joins (v k) l)) (sym after-next)
 
-    pair : Sides (v k) (after s p (suc k))
+    pair : Sides (v k) (after s counts p (suc k))
     pair = subst (Sides (v k)) (sym after-next) (given .pairs k left two)
 
-    more-after : length (after s p (suc k)) ≤ length (after s p k)
+    more-after : length (after s counts p (suc k)) ≤ length (after s counts p k)
     more-after =
         let d : count - k ≡ suc (suc (count - suc (suc k))) = omega arith in
-        subst (λ (l : List Term). length l ≤ length (after s p k)) (sym after-next)
+        subst (λ (l : List Term). length l ≤ length (after s counts p k)) (sym after-next)
         (subst (λ (l : List Term). length (joined v (suc k) (suc left)) ≤ length l) (sym (ap (joined v k) d)) (given .grows k left two))
 
-  most-after : (k : ℕ) → k < count → length (after s p k) ≤ length (after s p 0)
-  most-after zero l = le-refl (length (after s p 0))
+  most-after : (k : ℕ) → k < count → length (after s counts p k) ≤ length (after s counts p 0)
+  most-after zero l = le-refl (length (after s counts p 0))
   most-after (suc k) l = le-trans (more-after k l) (most-after k (omega arith))
 
   -- ---- one child more
-  module _ (k : ℕ) (s′ : Bool → List ℕ) (high : Terms) (j : Joining s p (suc k) s′ high) where
+  module _ (k : ℕ) (s′ : Bool → List ℕ) (high : Terms) (j : Joining s counts p (suc k) s′ high) where
     pub kept-long : (b : Bool) → length (s′ b) ≡ length (s b)
     kept-long b = kept-here (suc k) s′ high j b
 
@@ -127,11 +127,11 @@ module _ (s : Bool → List ℕ) (p : NodePart) (lies : Laid s p) (given : Conjo
     kept-even = kept-long false ∙ lies .even ∙ sym (kept-long true)
 
     -- the child's terms are where they were
-    pub child-same : (b : Bool) → take (childSize p k) (drop (childFrom p k) (s′ b)) ≡ take (childSize p k) (drop (childFrom p k) (s b))
+    pub child-same : (b : Bool) → take (childSize counts p k) (drop (childFrom p k) (s′ b)) ≡ take (childSize counts p k) (drop (childFrom p k) (s b))
     child-same b =
         let low : childFrom p k + p .capacity ≤ p .at = lies .below k (let h = j .some in omega arith) in
-        let few : childSize p k ≤ p .capacity = lies .sizes k in
-        same-before (p .at) (childFrom p k) (childSize p k) (s b) (s′ b) (omega arith)
+        let few : childSize counts p k ≤ p .capacity = lies .sizes k in
+        same-before (p .at) (childFrom p k) (childSize counts p k) (s b) (s′ b) (omega arith)
         (ap (take (p .at)) (j .over b) ∙ laid-front (p .at) (p .capacity) (s b) (inside b) (masksOf b (j .list)))
 
     pub child-there : childFrom p k + p .capacity ≤ length (s′ true)
@@ -150,11 +150,11 @@ module _ (s : Bool → List ℕ) (p : NodePart) (lies : Laid s p) (given : Conjo
     pub high-there : high .from + p .capacity ≤ length (s′ true)
     high-there = let h = j .there in omega (arith, kept-long true)
 
-    low-terms : (low : Terms) → low .from ≡ childFrom p k → low .count ≡ childSize p k
+    low-terms : (low : Terms) → low .from ≡ childFrom p k → low .count ≡ childSize counts p k
         → termsFrom s′ (low .from) (low .count) ≡ v k
     low-terms low f c = ap₂ (termsFrom s′) f c ∙ ap₂ termsOf (child-same true) (child-same false)
 
-    pub pair-given : (low : Terms) → low .from ≡ childFrom p k → low .count ≡ childSize p k
+    pub pair-given : (low : Terms) → low .from ≡ childFrom p k → low .count ≡ childSize counts p k
         → SidesAt (part (low .from) (low .count) true) (part (low .from) (low .count) false) (part (high .from) (high .count) true)
         (part (high .from) (high .count) false)
     pair-given low f c =
@@ -178,57 +178,57 @@ module _ (s : Bool → List ℕ) (p : NodePart) (lies : Laid s p) (given : Conjo
         }
 
     -- what was made
-    module _ (low : Terms) (f : low .from ≡ childFrom p k) (c : low .count ≡ childSize p k) (s″ : Bool → List ℕ) (r : Kept)
+    module _ (low : Terms) (f : low .from ≡ childFrom p k) (c : low .count ≡ childSize counts p k) (s″ : Bool → List ℕ) (r : Kept)
         (made : PartFilled (sort before (joins (termsFrom s′ (low .from) (low .count)) (termsFrom s′ (high .from) (high .count))))
         (p .at) (p .capacity) s′ s″ r) where
-      filled : PartFilled (after s p k) (p .at) (p .capacity) s′ s″ r
+      filled : PartFilled (after s counts p k) (p .at) (p .capacity) s′ s″ r
       filled =
           subst (λ (l : List Term). PartFilled l (p .at) (p .capacity) s′ s″ r)
           (ap₂ (λ (a b : List Term). sort before (joins a b)) (low-terms low f c) (j .terms) ∙ sym (after-this k (j .some))) made
 
-      pub joining-more : (n : ℕ) → r ≡ Count n → Joining s p k s″ (record { from = p .at; count = n })
+      pub joining-more : (n : ℕ) → r ≡ Count n → Joining s counts p k s″ (record { from = p .at; count = n })
       joining-more n e =
-          let (fits, size) = kept-count (p .capacity) (after s p k) n (sym e ∙ filled .answer) in
-          let over : (b : Bool) → s″ b ≡ laidAt (p .at) (p .capacity) (masksOf b (after s p k)) (s b) = λ b.
-          filled .masks fits b ∙ ap (laidAt (p .at) (p .capacity) (masksOf b (after s p k))) (j .over b)
-          ∙ laid-over (p .at) (p .capacity) (s b) (inside b) (masksOf b (j .list)) (masksOf b (after s p k))
-          (omega (arith, length-masks b (j .list), length-masks b (after s p k), j .short, more-after k (j .some)))
-          (omega (arith, length-masks b (after s p k))) in
+          let (fits, size) = kept-count (p .capacity) (after s counts p k) n (sym e ∙ filled .answer) in
+          let over : (b : Bool) → s″ b ≡ laidAt (p .at) (p .capacity) (masksOf b (after s counts p k)) (s b) = λ b.
+          filled .masks fits b ∙ ap (laidAt (p .at) (p .capacity) (masksOf b (after s counts p k))) (j .over b)
+          ∙ laid-over (p .at) (p .capacity) (s b) (inside b) (masksOf b (j .list)) (masksOf b (after s counts p k))
+          (omega (arith, length-masks b (j .list), length-masks b (after s counts p k), j .short, more-after k (j .some)))
+          (omega (arith, length-masks b (after s counts p k))) in
           record {
             some = let h = j .some in omega arith;
-            list = after s p k;
+            list = after s counts p k;
             over = over;
-            short = le-refl (length (after s p k));
-            terms = ap₂ termsOf (back n size s″ over true) (back n size s″ over false) ∙ terms-masks (after s p k);
+            short = le-refl (length (after s counts p k));
+            terms = ap₂ termsOf (back n size s″ over true) (back n size s″ over false) ∙ terms-masks (after s counts p k);
             size = size;
             room = omega arith;
             there = lies .inside;
             whole = λ h. refl;
           }
         where
-          back : (n : ℕ) → n ≡ length (after s p k) → (t : Bool → List ℕ)
-              → ((b : Bool) → t b ≡ laidAt (p .at) (p .capacity) (masksOf b (after s p k)) (s b)) → (b : Bool)
-              → take n (drop (p .at) (t b)) ≡ masksOf b (after s p k)
+          back : (n : ℕ) → n ≡ length (after s counts p k) → (t : Bool → List ℕ)
+              → ((b : Bool) → t b ≡ laidAt (p .at) (p .capacity) (masksOf b (after s counts p k)) (s b)) → (b : Bool)
+              → take n (drop (p .at) (t b)) ≡ masksOf b (after s counts p k)
           back n size t over b =
-              ap₂ (λ (m : ℕ) (z : List ℕ). take m (drop (p .at) z)) (size ∙ sym (length-masks b (after s p k))) (over b)
-              ∙ laid-back (p .at) (p .capacity) (s b) (inside b) (masksOf b (after s p k))
+              ap₂ (λ (m : ℕ) (z : List ℕ). take m (drop (p .at) z)) (size ∙ sym (length-masks b (after s counts p k))) (over b)
+              ∙ laid-back (p .at) (p .capacity) (s b) (inside b) (masksOf b (after s counts p k))
 
       -- more joins than the part holds
       pub joining-full : r ≡ Full → PartFilled (joined v 0 count) (p .at) (p .capacity) s s″ r
       joining-full e =
-          let over : p .capacity < length (after s p k) = kept-full (p .capacity) (after s p k) (sym e ∙ filled .answer) in
-          let most : length (after s p k) ≤ length (after s p 0) = most-after k (let h = j .some in omega arith) in
-          let past : p .capacity < length (after s p 0) = omega arith in
+          let over : p .capacity < length (after s counts p k) = kept-full (p .capacity) (after s counts p k) (sym e ∙ filled .answer) in
+          let most : length (after s counts p k) ≤ length (after s counts p 0) = most-after k (let h = j .some in omega arith) in
+          let past : p .capacity < length (after s counts p 0) = omega arith in
           subst (λ (l : List Term). PartFilled l (p .at) (p .capacity) s s″ r) all-after
-          (record { answer = e ∙ full-kept (p .capacity) (after s p 0) past; masks = λ h. absurd (omega arith) })
+          (record { answer = e ∙ full-kept (p .capacity) (after s counts p 0) past; masks = λ h. absurd (omega arith) })
 
   -- all are joined
-  pub joining-end : (s′ : Bool → List ℕ) (high : Terms) → Joining s p 0 s′ high
+  pub joining-end : (s′ : Bool → List ℕ) (high : Terms) → Joining s counts p 0 s′ high
       → PartFilled (joined v 0 count) (p .at) (p .capacity) s s′ (Count (high .count))
   joining-end s′ high j =
       let t = given .two in
       subst (λ (l : List Term). PartFilled l (p .at) (p .capacity) s s′ (Count (high .count))) all-after
       (record {
-        answer = ap Count (j .size) ∙ count-kept (p .capacity) (after s p 0) (let z = j .size in let r = j .room in omega arith);
+        answer = ap Count (j .size) ∙ count-kept (p .capacity) (after s counts p 0) (let z = j .size in let r = j .room in omega arith);
         masks = λ h b. j .over b ∙ ap (λ (l : List Term). laidAt (p .at) (p .capacity) (masksOf b l) (s b)) (j .whole (omega arith));
       })

@@ -165,9 +165,9 @@ module _ {N n : ℕ} {w : List ℕ} (acc : Accepted N n w) where
       by-kind unknownKind fit e = absurd (node-fits acc i unknown l e)
 
 -- ---- node i, whose part is p, in buffers s that hold its children's prime implicants
-module _ {N n : ℕ} {w : List ℕ} (acc : Accepted N n w) (i : ℕ) (l : i < n) (s : Bool → List ℕ) (p : NodePart)
-    (is : record { gate = p .gate; children = p .children } ≡ decodedAt w i) (lies : Laid s p)
-    (h : (j : ℕ) → j < p .children .count → childTerms s p j ≡ primes N (function w (getD (p .children .nodes) j 0))) where
+module _ {N n : ℕ} {w : List ℕ} (acc : Accepted N n w) (i : ℕ) (l : i < n) (s : Bool → List ℕ) (counts : List ℕ) (p : NodePart)
+    (is : record { gate = p .gate; children = p .children } ≡ decodedAt w i) (lies : Laid s counts p)
+    (h : (j : ℕ) → j < p .children .count → childTerms s counts p j ≡ primes N (function w (getD (p .children .nodes) j 0))) where
   abbrev y : NodeWords
   y = wordsAt w i
 
@@ -201,23 +201,23 @@ module _ {N n : ℕ} {w : List ℕ} (acc : Accepted N n w) (i : ℕ) (l : i < n)
       ∙ ap (λ (z : Children). gate k (y .variable) (getD (z .nodes) 0 0) (getD (z .nodes) 1 0)) (sym same)
 
   -- what is made of it is its own
-  pub made-exact : nodeMade (p .gate) (cs .count) (childTerms s p) ≡ primes N (function w i)
+  pub made-exact : nodeMade (p .gate) (cs .count) (childTerms s counts p) ≡ primes N (function w i)
   made-exact =
-      ap (λ (g : Gate). nodeMade g (cs .count) (childTerms s p)) gated
-      ∙ by-kind acc i l cs long (lies .few) (childTerms s p) h (y .variable) k counted node
+      ap (λ (g : Gate). nodeMade g (cs .count) (childTerms s counts p)) gated
+      ∙ by-kind acc i l cs long (lies .few) (childTerms s counts p) h (y .variable) k counted node
 
   -- ---- what is taken for granted of its children's terms
   abbrev masks : ℕ → Bool → List ℕ
-  masks j b = take (childSize p j) (drop (childFrom p j) (s b))
+  masks j b = take (childSize counts p j) (drop (childFrom p j) (s b))
 
-  masks-long : (j : ℕ) (b : Bool) → length (masks j b) ≡ childSize p j
+  masks-long : (j : ℕ) (b : Bool) → length (masks j b) ≡ childSize counts p j
   masks-long j true =
-      length-part (childFrom p j) (childSize p j) (s true) (let a = lies .sizes j in let t = lies .there j in omega arith)
+      length-part (childFrom p j) (childSize counts p j) (s true) (let a = lies .sizes j in let t = lies .there j in omega arith)
   masks-long j false =
-      length-part (childFrom p j) (childSize p j) (s false)
+      length-part (childFrom p j) (childSize counts p j) (s false)
       (let a = lies .sizes j in let t = lies .there j in let e = lies .even in omega arith)
 
-  abbrev sides-of : (a b : ℕ) → childTerms s p 0 ≡ primes N (function w a) → childTerms s p 1 ≡ primes N (function w b)
+  abbrev sides-of : (a b : ℕ) → childTerms s counts p 0 ≡ primes N (function w a) → childTerms s counts p 1 ≡ primes N (function w b)
       → SidesAt (masks 0 true) (masks 0 false) (masks 1 true) (masks 1 false)
   sides-of a b q r =
       let c = lies .sizes 0 in
@@ -241,7 +241,7 @@ module _ {N n : ℕ} {w : List ℕ} (acc : Accepted N n w) (i : ℕ) (l : i < n)
       }
 
   given-kind : (k : Kind) (x : ℕ) → T (countFits k (cs .count)) → nodeAt w i ≡ decode k x cs
-      → NodeGiven s p (gate k x (getD (cs .nodes) 0 0) (getD (cs .nodes) 1 0))
+      → NodeGiven s counts p (gate k x (getD (cs .nodes) 0 0) (getD (cs .nodes) 1 0))
   given-kind (constantKind c) x fit e = tt
   given-kind (literalKind c) x fit e =
       let f : x < N = node-fits acc i (literal c x) l e in omega (arith, variables-wide acc)
@@ -250,8 +250,8 @@ module _ {N n : ℕ} {w : List ℕ} (acc : Accepted N n w) (i : ℕ) (l : i < n)
       let a : ℕ = getD (cs .nodes) 0 0 in
       let b : ℕ = getD (cs .nodes) 1 0 in
       let f : Fits N i (decision x a b) = node-fits acc i (decision x a b) l e in
-      let q : childTerms s p 0 ≡ primes N (function w a) = h 0 (omega arith) in
-      let r : childTerms s p 1 ≡ primes N (function w b) = h 1 (omega arith) in
+      let q : childTerms s counts p 0 ≡ primes N (function w a) = h 0 (omega arith) in
+      let r : childTerms s counts p 1 ≡ primes N (function w b) = h 1 (omega arith) in
       record {
         at = sides-of a b q r;
         below = f .0;
@@ -262,8 +262,8 @@ module _ {N n : ℕ} {w : List ℕ} (acc : Accepted N n w) (i : ℕ) (l : i < n)
       }
   given-kind conjunctionKind x fit e =
       let f : Fits N i (conjunction (childList cs)) = node-fits acc i (conjunction (childList cs)) l e in
-      children-conjoined acc i l cs long (lies .few) (childTerms s p) h e (f .0)
+      children-conjoined acc i l cs long (lies .few) (childTerms s counts p) h e (f .0)
   given-kind unknownKind x fit e = tt
 
-  pub given : NodeGiven s p (p .gate)
-  given = subst (NodeGiven s p) (sym gated) (given-kind k (y .variable) counted node)
+  pub given : NodeGiven s counts p (p .gate)
+  given = subst (NodeGiven s counts p) (sym gated) (given-kind k (y .variable) counted node)

@@ -24,41 +24,41 @@ use Rattle.nodes.proofs.Parts.{length-laid, given-there}
 -- a gate that is no conjunction takes its terms from two lists
 pub record Simple (g : Gate) : Type 0 where
   pub last : (count : ℕ) → lastPlace g count ≡ 1
-  pub given : (s : Bool → List ℕ) (p : NodePart) → NodeGiven s p g
-      → Given g (take (childSize p 0) (drop (childFrom p 0) (s true))) (take (childSize p 0) (drop (childFrom p 0) (s false)))
-      (take (childSize p 1) (drop (childFrom p 1) (s true))) (take (childSize p 1) (drop (childFrom p 1) (s false)))
+  pub given : (s : Bool → List ℕ) (counts : List ℕ) (p : NodePart) → NodeGiven s counts p g
+      → Given g (take (childSize counts p 0) (drop (childFrom p 0) (s true))) (take (childSize counts p 0) (drop (childFrom p 0) (s false)))
+      (take (childSize counts p 1) (drop (childFrom p 1) (s true))) (take (childSize counts p 1) (drop (childFrom p 1) (s false)))
   pub made : (count : ℕ) (v : ℕ → List Term) → gateMade g (v 0) (v 1) ≡ nodeMade g count v
 
 either : (g : Gate) → (g ≡ Conjunction) ⊎ Simple g
-either (Constant b) = inr (record { last = λ n. refl; given = λ s p h. tt; made = λ n v. refl })
-either (Literal b x) = inr (record { last = λ n. refl; given = λ s p h. h; made = λ n v. refl })
-either (Decision x a b) = inr (record { last = λ n. refl; given = λ s p h. h; made = λ n v. refl })
+either (Constant b) = inr (record { last = λ n. refl; given = λ s counts p h. tt; made = λ n v. refl })
+either (Literal b x) = inr (record { last = λ n. refl; given = λ s counts p h. h; made = λ n v. refl })
+either (Decision x a b) = inr (record { last = λ n. refl; given = λ s counts p h. h; made = λ n v. refl })
 either Conjunction = inl refl
-either Unknown = inr (record { last = λ n. refl; given = λ s p h. tt; made = λ n v. refl })
+either Unknown = inr (record { last = λ n. refl; given = λ s counts p h. tt; made = λ n v. refl })
 
-module _ (s : Bool → List ℕ) (p : NodePart) where
+module _ (s : Bool → List ℕ) (counts : List ℕ) (p : NodePart) where
   abbrev made : List Term
-  made = nodeMade (p .gate) (p .children .count) (childTerms s p)
+  made = nodeMade (p .gate) (p .children .count) (childTerms s counts p)
 
   abbrev First : ℕ → (Bool → List ℕ) → Terms → Type 0
-  First k s′ high = Simple (p .gate) × (k ≡ 1) × (s′ ≡ s) × (high .from ≡ childFrom p 1) × (high .count ≡ childSize p 1)
+  First k s′ high = Simple (p .gate) × (k ≡ 1) × (s′ ≡ s) × (high .from ≡ childFrom p 1) × (high .count ≡ childSize counts p 1)
 
   abbrev Done : ℕ → (Bool → List ℕ) → Terms → Type 0
   Done k s′ high = (k ≡ 0) × PartFilled made (p .at) (p .capacity) s s′ (Count (high .count))
 
   -- the children from place k on are joined, or the one turn is to come, or is over
   abbrev pub Filling : ℕ → (Bool → List ℕ) → Terms → Type 0
-  Filling k s′ high = ((p .gate ≡ Conjunction) × Joining s p k s′ high) ⊎ (First k s′ high ⊎ Done k s′ high)
+  Filling k s′ high = ((p .gate ≡ Conjunction) × Joining s counts p k s′ high) ⊎ (First k s′ high ⊎ Done k s′ high)
 
-  module _ (lies : Laid s p) (given : NodeGiven s p (p .gate)) where
-    conjoined : p .gate ≡ Conjunction → Conjoined (childTerms s p) (p .children .count)
-    conjoined e = subst (NodeGiven s p) e given
+  module _ (lies : Laid s counts p) (given : NodeGiven s counts p (p .gate)) where
+    conjoined : p .gate ≡ Conjunction → Conjoined (childTerms s counts p) (p .children .count)
+    conjoined e = subst (NodeGiven s counts p) e given
 
     all-joined : (e : p .gate ≡ Conjunction) (s′ : Bool → List ℕ) (r : Kept)
-        → PartFilled (nodeMade Conjunction (p .children .count) (childTerms s p)) (p .at) (p .capacity) s s′ r
+        → PartFilled (nodeMade Conjunction (p .children .count) (childTerms s counts p)) (p .at) (p .capacity) s s′ r
         → PartFilled made (p .at) (p .capacity) s s′ r
     all-joined e s′ r =
-        subst (λ (g : Gate). PartFilled (nodeMade g (p .children .count) (childTerms s p)) (p .at) (p .capacity) s s′ r) (sym e)
+        subst (λ (g : Gate). PartFilled (nodeMade g (p .children .count) (childTerms s counts p)) (p .at) (p .capacity) s s′ r) (sym e)
 
     inside : (b : Bool) → p .at + p .capacity ≤ length (s b)
     inside true = lies .inside
@@ -84,7 +84,7 @@ module _ (s : Bool → List ℕ) (p : NodePart) where
         by (inr h) = let l = h .last (p .children .count) in omega arith
 
     pub filling-start : (k : ℕ) (high : Terms) → k ≡ lastPlace (p .gate) (p .children .count) → high .from ≡ childFrom p k
-        → high .count ≡ childSize p k → Filling k s high
+        → high .count ≡ childSize counts p k → Filling k s high
     filling-start k high e f c = by (either (p .gate))
       where
         by : (p .gate ≡ Conjunction) ⊎ Simple (p .gate) → Filling k s high
@@ -92,14 +92,14 @@ module _ (s : Bool → List ℕ) (p : NodePart) where
             let two = conjoined q .two in
             let l : k ≡ lastPlace Conjunction (p .children .count) =
             subst (λ (g : Gate). k ≡ lastPlace g (p .children .count)) q e in
-            inl (q, joining-start s p lies (conjoined q) k high (omega arith) f c)
+            inl (q, joining-start s counts p lies (conjoined q) k high (omega arith) f c)
         by (inr h) =
             let l : k ≡ 1 = e ∙ h .last (p .children .count) in
-            inr (inl (h, l, refl, f ∙ ap (childFrom p) l, c ∙ ap (childSize p) l))
+            inr (inl (h, l, refl, f ∙ ap (childFrom p) l, c ∙ ap (childSize counts p) l))
 
     -- the buffers keep their lengths
     pub filling-long : (k : ℕ) (s′ : Bool → List ℕ) (high : Terms) → Filling k s′ high → (b : Bool) → length (s′ b) ≡ length (s b)
-    filling-long k s′ high (inl (e, j)) b = kept-here s p lies (conjoined e) k s′ high j b
+    filling-long k s′ high (inl (e, j)) b = kept-here s counts p lies (conjoined e) k s′ high j b
     filling-long k s′ high (inr (inl h)) b = ap (λ (z : Bool → List ℕ). length (z b)) (h .2)
     filling-long k s′ high (inr (inr h)) b =
         let f = h .1 in
@@ -115,12 +115,12 @@ module _ (s : Bool → List ℕ) (p : NodePart) where
 
     pub filling-end : (s′ : Bool → List ℕ) (high : Terms) → Filling 0 s′ high
         → PartFilled made (p .at) (p .capacity) s s′ (Count (high .count))
-    filling-end s′ high (inl (e, j)) = all-joined e s′ (Count (high .count)) (joining-end s p lies (conjoined e) s′ high j)
+    filling-end s′ high (inl (e, j)) = all-joined e s′ (Count (high .count)) (joining-end s counts p lies (conjoined e) s′ high j)
     filling-end s′ high (inr (inl h)) = absurd (let z = h .1 in omega arith)
     filling-end s′ high (inr (inr h)) = h .1
 
     -- ---- a turn
-    module _ (k : ℕ) (s′ : Bool → List ℕ) (high low : Terms) (f : low .from ≡ childFrom p k) (c : low .count ≡ childSize p k) where
+    module _ (k : ℕ) (s′ : Bool → List ℕ) (high low : Terms) (f : low .from ≡ childFrom p k) (c : low .count ≡ childSize counts p k) where
       abbrev Rooms : Type 0
       Rooms =
           (low .count ≤ p .capacity) × (high .count ≤ p .capacity) × (low .from + p .capacity ≤ length (s′ true))
@@ -132,15 +132,15 @@ module _ (s : Bool → List ℕ) (p : NodePart) where
 
       pub turn-rooms : Filling (suc k) s′ high → Rooms
       turn-rooms (inl (e, j)) =
-          let there = child-there s p lies (conjoined e) k s′ high j in
-          let long = kept-long s p lies (conjoined e) k s′ high j true in
+          let there = child-there s counts p lies (conjoined e) k s′ high j in
+          let long = kept-long s counts p lies (conjoined e) k s′ high j true in
           let i = lies .inside in (
             few-low,
             j .room,
             omega arith,
-            high-there s p lies (conjoined e) k s′ high j,
+            high-there s counts p lies (conjoined e) k s′ high j,
             omega arith,
-            kept-even s p lies (conjoined e) k s′ high j,
+            kept-even s counts p lies (conjoined e) k s′ high j,
           )
       turn-rooms (inr (inl h)) =
           let lt : length (s′ true) ≡ length (s true) = ap (λ (z : Bool → List ℕ). length (z true)) (h .2) in
@@ -160,10 +160,10 @@ module _ (s : Bool → List ℕ) (p : NodePart) where
       pub turn-given : Filling (suc k) s′ high → Given (p .gate) (part low true) (part low false) (part high true) (part high false)
       turn-given (inl (e, j)) =
           subst (λ (g : Gate). Given g (part low true) (part low false) (part high true) (part high false)) (sym e)
-          (pair-given s p lies (conjoined e) k s′ high j low f c)
+          (pair-given s counts p lies (conjoined e) k s′ high j low f c)
       turn-given (inr (inl h)) =
           given-there (p .gate) (first 0 low f0 c0 true) (first 0 low f0 c0 false) (first 1 high (h .3) (h .4) true)
-          (first 1 high (h .3) (h .4) false) (h .0 .given s p given)
+          (first 1 high (h .3) (h .4) false) (h .0 .given s counts p given)
         where
           zero-place : k ≡ 0
           zero-place = let z = h .1 in omega arith
@@ -171,14 +171,14 @@ module _ (s : Bool → List ℕ) (p : NodePart) where
           f0 : low .from ≡ childFrom p 0
           f0 = f ∙ ap (childFrom p) zero-place
 
-          c0 : low .count ≡ childSize p 0
-          c0 = c ∙ ap (childSize p) zero-place
+          c0 : low .count ≡ childSize counts p 0
+          c0 = c ∙ ap (childSize counts p) zero-place
 
-          first : (j : ℕ) (t : Terms) → t .from ≡ childFrom p j → t .count ≡ childSize p j → (b : Bool)
-              → part t b ≡ take (childSize p j) (drop (childFrom p j) (s b))
+          first : (j : ℕ) (t : Terms) → t .from ≡ childFrom p j → t .count ≡ childSize counts p j → (b : Bool)
+              → part t b ≡ take (childSize counts p j) (drop (childFrom p j) (s b))
           first j t tf tc b =
               ap₂ (λ (m n : ℕ). take m (drop n (s′ b))) tc tf
-              ∙ ap (λ (z : Bool → List ℕ). take (childSize p j) (drop (childFrom p j) (z b))) (h .2)
+              ∙ ap (λ (z : Bool → List ℕ). take (childSize counts p j) (drop (childFrom p j) (z b))) (h .2)
       turn-given (inr (inr h)) = absurd (let z = h .0 in omega arith)
 
       module _ (s″ : Bool → List ℕ) (r : Kept)
@@ -194,24 +194,24 @@ module _ (s : Bool → List ℕ) (p : NodePart) where
         all-made : First (suc k) s′ high → PartFilled made (p .at) (p .capacity) s s″ r
         all-made h =
             let z : k ≡ 0 = let q = h .1 in omega arith in
-            let low-terms : termsFrom s′ (low .from) (low .count) ≡ childTerms s p 0 =
-            ap₂ (termsFrom s′) (f ∙ ap (childFrom p) z) (c ∙ ap (childSize p) z)
-            ∙ ap (λ (t : Bool → List ℕ). termsFrom t (childFrom p 0) (childSize p 0)) (h .2) in
-            let high-terms : termsFrom s′ (high .from) (high .count) ≡ childTerms s p 1 =
-            ap₂ (termsFrom s′) (h .3) (h .4) ∙ ap (λ (t : Bool → List ℕ). termsFrom t (childFrom p 1) (childSize p 1)) (h .2) in
+            let low-terms : termsFrom s′ (low .from) (low .count) ≡ childTerms s counts p 0 =
+            ap₂ (termsFrom s′) (f ∙ ap (childFrom p) z) (c ∙ ap (childSize counts p) z)
+            ∙ ap (λ (t : Bool → List ℕ). termsFrom t (childFrom p 0) (childSize counts p 0)) (h .2) in
+            let high-terms : termsFrom s′ (high .from) (high .count) ≡ childTerms s counts p 1 =
+            ap₂ (termsFrom s′) (h .3) (h .4) ∙ ap (λ (t : Bool → List ℕ). termsFrom t (childFrom p 1) (childSize counts p 1)) (h .2) in
             subst (λ (t : Bool → List ℕ). PartFilled made (p .at) (p .capacity) t s″ r) (h .2)
             (subst (λ (l : List Term). PartFilled l (p .at) (p .capacity) s′ s″ r)
-            (ap₂ (gateMade (p .gate)) low-terms high-terms ∙ h .0 .made (p .children .count) (childTerms s p)) filled)
+            (ap₂ (gateMade (p .gate)) low-terms high-terms ∙ h .0 .made (p .children .count) (childTerms s counts p)) filled)
 
         pub filling-more : Filling (suc k) s′ high → (n : ℕ) → r ≡ Count n → Filling k s″ (record { from = p .at; count = n })
         filling-more (inl (e, j)) n q =
-            inl (e, joining-more s p lies (conjoined e) k s′ high j low f c s″ r (joined-here e) n q)
+            inl (e, joining-more s counts p lies (conjoined e) k s′ high j low f c s″ r (joined-here e) n q)
         filling-more (inr (inl h)) n q =
             inr (inr (let z = h .1 in omega arith, subst (PartFilled made (p .at) (p .capacity) s s″) q (all-made h)))
         filling-more (inr (inr h)) n q = absurd (let z = h .0 in omega arith)
 
         pub filling-full : Filling (suc k) s′ high → r ≡ Full → PartFilled made (p .at) (p .capacity) s s″ r
         filling-full (inl (e, j)) q =
-            all-joined e s″ r (joining-full s p lies (conjoined e) k s′ high j low f c s″ r (joined-here e) q)
+            all-joined e s″ r (joining-full s counts p lies (conjoined e) k s′ high j low f c s″ r (joined-here e) q)
         filling-full (inr (inl h)) q = all-made h
         filling-full (inr (inr h)) q = absurd (let z = h .0 in omega arith)

@@ -1,7 +1,6 @@
 -- Parts of buffers that are copied, and that are filled.
 use Prim.Native.Nat.{ℕ, zero, suc, _+_, _-_, _<_, _≤_}
 use mathlib.Core.Path.{_≡_, sym, ap, ap₂, subst, _∙_}
-use mathlib.Core.Logic.{⊎-elim, _≢_}
 use mathlib.Core.Bool.{Bool, true}
 use mathlib.Core.List.{List, [], _∷_, _++_, append-assoc}
 use native.Mathlib.Omega.{arith}
@@ -10,14 +9,11 @@ use native.Mathlib.Numerals.{add-one}
 use lib.ListN.{length, getD, take, drop, set, length-append, length-drop, take-append-drop}
 use lib.Seq.{take-suc-set, take-suc, getD-drop, length-take-le, take-at, drop-at, take-append-seam, drop-append-add}
 use lib.Seq.{take-take, drop-drop, take-nil}
-use lib.Seq.{getD-set-same, getD-set-other}
-use Rattle.masks.proofs.Tests.{same?}
 use Rattle.table.specs.declared.gates.Gate.{Gate}
-use Rattle.table.specs.declared.layout.Children.{Children}
 use Rattle.terms.specs.declared.Term.{Term}
 use Rattle.insertion.specs.Filled.{masksOf, laid, keptOf, Filled}
 use Rattle.insertion.specs.declared.Kept.{Kept}
-use Rattle.nodes.specs.Part.{Given, laidAt, PartFilled, Sized}
+use Rattle.nodes.specs.Part.{Given, laidAt, PartFilled}
 
 pub copy-more : (i at : ℕ) (to from : List ℕ) → i < length to → at + i < length from → take i to ≡ take i (drop at from)
     → take (i + 1) (set to i (getD from (at + i) 0)) ≡ take (i + 1) (drop at from)
@@ -121,19 +117,6 @@ same-before at from n s s′ h e = cut s′ ∙ ap (λ (z : List ℕ). take n (d
         (ap (λ (k : ℕ). take n (drop from (take k s))) d
         ∙ ap (take n) (drop-take from (at - from) s)
         ∙ take-take n (at - from) (drop from s) (omega arith))
-
--- ---- the sizes of a node's children
-pub sized-more : (cs : List ℕ) (y : Children) (k : ℕ) (r : List ℕ) (v : ℕ) → k < length r → v ≡ getD cs (getD (y .nodes) k 0) 0
-    → Sized cs y k r → Sized cs y (k + 1) (set r k v)
-sized-more cs y k r v l e h =
-    record {
-      used = λ j m. ⊎-elim
-          (λ (d : j ≡ k).
-          subst (λ (z : ℕ). getD (set r k v) z 0 ≡ getD cs (getD (y .nodes) z 0) 0) (sym d) (getD-set-same r k v 0 l ∙ e))
-          (λ (d : j ≢ k). getD-set-other r k j v 0 d ∙ h .used j (omega arith))
-          (same? j k);
-      unused = λ j m. getD-set-other r k j v 0 (λ d. absurd (omega arith)) ∙ h .unused j (omega arith);
-    }
 
 -- what is given of terms is given of them wherever they stand
 pub given-there : (y : Gate) {l₁ l₂ l₃ l₄ m₁ m₂ m₃ m₄ : List ℕ} → m₁ ≡ l₁ → m₂ ≡ l₂ → m₃ ≡ l₃ → m₄ ≡ l₄ → Given y l₁ l₂ l₃ l₄

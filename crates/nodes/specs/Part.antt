@@ -10,7 +10,6 @@ use Rattle.table.specs.Layout.{maxChildren}
 use Rattle.table.specs.Node.{maxNodes}
 use Rattle.table.specs.declared.gates.Gate.{Gate}
 use Rattle.table.specs.declared.gates.Gate.the-variants.{Constant, Literal, Decision, Conjunction, Unknown}
-use Rattle.table.specs.declared.layout.Children.{Children}
 use Rattle.terms.specs.Joins.{joins, decisionTerms}
 use Rattle.terms.specs.Lists.{sort}
 use Rattle.terms.specs.Order.{before}
@@ -79,15 +78,15 @@ lastPlace (Decision x a b) count = 1
 lastPlace Conjunction count = count - 1
 lastPlace Unknown count = 1
 
--- where the terms of the child at place j start, and how many there are
+-- where the terms of the child at place j start, and how many there are by the counts of all nodes
 abbrev pub childFrom : NodePart → ℕ → ℕ
 childFrom p j = getD (p .children .nodes) j 0 * p .capacity
 
-abbrev pub childSize : NodePart → ℕ → ℕ
-childSize p j = getD (p .sizes) j 0
+abbrev pub childSize : List ℕ → NodePart → ℕ → ℕ
+childSize counts p j = getD counts (getD (p .children .nodes) j 0) 0
 
-abbrev pub childTerms : (Bool → List ℕ) → NodePart → ℕ → List Term
-childTerms s p j = termsFrom s (childFrom p j) (childSize p j)
+abbrev pub childTerms : (Bool → List ℕ) → List ℕ → NodePart → ℕ → List Term
+childTerms s counts p j = termsFrom s (childFrom p j) (childSize counts p j)
 
 -- each of a conjunction's lists goes with the joins of those after it, which are no more than the next
 pub record Conjoined (v : ℕ → List Term) (count : ℕ) : Type 0 where
@@ -96,34 +95,29 @@ pub record Conjoined (v : ℕ → List Term) (count : ℕ) : Type 0 where
   pub grows : (k m : ℕ) → k + suc (suc m) ≡ count → length (joined v (suc k) (suc m)) ≤ length (joined v k (suc (suc m)))
 
 -- what is taken for granted of the terms of a node's children
-abbrev pub NodeGiven : (Bool → List ℕ) → NodePart → Gate → Type 0
-NodeGiven s p (Constant b) = Unit {0}
-NodeGiven s p (Literal b x) = x < width
-NodeGiven s p (Decision x a b) =
-    DecidedAt x (take (childSize p 0) (drop (childFrom p 0) (s true))) (take (childSize p 0) (drop (childFrom p 0) (s false)))
-    (take (childSize p 1) (drop (childFrom p 1) (s true))) (take (childSize p 1) (drop (childFrom p 1) (s false)))
-NodeGiven s p Conjunction = Conjoined (childTerms s p) (p .children .count)
-NodeGiven s p Unknown = Unit {0}
+abbrev pub NodeGiven : (Bool → List ℕ) → List ℕ → NodePart → Gate → Type 0
+NodeGiven s counts p (Constant b) = Unit {0}
+NodeGiven s counts p (Literal b x) = x < width
+NodeGiven s counts p (Decision x a b) =
+    DecidedAt x (take (childSize counts p 0) (drop (childFrom p 0) (s true))) (take (childSize counts p 0) (drop (childFrom p 0) (s false)))
+    (take (childSize counts p 1) (drop (childFrom p 1) (s true))) (take (childSize counts p 1) (drop (childFrom p 1) (s false)))
+NodeGiven s counts p Conjunction = Conjoined (childTerms s counts p) (p .children .count)
+NodeGiven s counts p Unknown = Unit {0}
 
 -- the part lies in the buffers, and its children's terms stand below it; a place of no child has the number 0
-pub record Laid (s : Bool → List ℕ) (p : NodePart) : Type 0 where
+pub record Laid (s : Bool → List ℕ) (counts : List ℕ) (p : NodePart) : Type 0 where
   pub small : p .capacity ≤ maxCapacity
   pub inside : p .at + p .capacity ≤ length (s true)
   pub even : length (s false) ≡ length (s true)
   pub few : p .children .count ≤ maxChildren
-  pub sizes : (j : ℕ) → childSize p j ≤ p .capacity
+  pub sizes : (j : ℕ) → childSize counts p j ≤ p .capacity
   pub below : (j : ℕ) → j < p .children .count → childFrom p j + p .capacity ≤ p .at
-  pub words : (j : ℕ) → getD (p .children .nodes) j 0 < maxNodes
+  pub nodes : length counts ≤ maxNodes
+  pub words : (j : ℕ) → getD (p .children .nodes) j 0 < length counts
   pub there : (j : ℕ) → childFrom p j + p .capacity ≤ length (s true)
 
--- r has the counts, among cs, of the first n children, and 0 at the other places
-pub record Sized (cs : List ℕ) (y : Children) (n : ℕ) (r : List ℕ) : Type 0 where
-  pub used : (j : ℕ) → j < n → getD r j 0 ≡ getD cs (getD (y .nodes) j 0) 0
-  pub unused : (j : ℕ) → n ≤ j → getD r j 0 ≡ 0
-
--- the part of node i of the table w, with counts cs
-pub record IsPart (w cs : List ℕ) (i capacity : ℕ) (p : NodePart) : Type 0 where
+-- the part of node i of the table w
+pub record IsPart (w : List ℕ) (i capacity : ℕ) (p : NodePart) : Type 0 where
   pub node : record { gate = p .gate; children = p .children } ≡ decodedAt w i
   pub at : p .at ≡ i * capacity
   pub capacity-is : p .capacity ≡ capacity
-  pub sized : Sized cs (p .children) (p .children .count) (p .sizes)

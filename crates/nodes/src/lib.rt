@@ -5,19 +5,17 @@ ghost use mathlib.Core.List.{[], _∷_};
 ghost use Prim.Native.Nat.{_+_, _*_, _≤_, _<_};
 ghost use lib.ListN.{length, take, drop, getD};
 ghost use Rattle.masks.specs.Mask.{width};
-ghost use Rattle.table.specs.Gate.{ChildrenBelow, decodedAt};
 ghost use Rattle.table.specs.Layout.{wordsFor, maxChildren};
 ghost use Rattle.table.specs.Node.{maxNodes};
 ghost use Rattle.terms.specs.Term.{empty, extend, termsOf};
 ghost use Rattle.lists.specs.Capacity.{maxCapacity};
 ghost use Rattle.insertion.specs.Filled.{bySign, Filled};
 ghost use Rattle.nodes.specs.Part.{gateMade, nodeMade, Given, NodeGiven, termsFrom, childFrom, childSize, childTerms, Laid};
-ghost use Rattle.nodes.specs.Part.{PartFilled, Sized, IsPart, lastPlace, HasPlace};
+ghost use Rattle.nodes.specs.Part.{PartFilled, IsPart, lastPlace, HasPlace};
 use insertion::Kept;
 use table::gates::Gate;
 use table::gates::decode_at;
 use table::layout::Children;
-use table::layout::MAX_CHILDREN;
 use terms::Term;
 
 // Makes the terms of a constant: the term with no literal, or none.
@@ -145,27 +143,26 @@ fn fill_part(
     )
 }
 
-// A node's part of the buffers: its gate and children, and how many terms each child has, 0 at the places of none. Those of child c stand
-// from entry c * capacity on.
+// A node's part of the buffers: its gate and children. The terms of child c stand from entry c * capacity on.
 pub struct NodePart {
     pub gate: Gate,
     pub children: Children,
-    pub sizes: [usize; MAX_CHILDREN],
     pub at: usize,
     pub capacity: usize,
 }
 
 // The terms of the child at a place.
-fn child_at(part: NodePart, k: usize) -> Terms
-    requires { ⌜ (k < maxChildren) × (getD (part .children .nodes) k 0 < maxNodes) × (part .capacity ≤ maxCapacity) ⌝ }
-    ensures { λ r. ⌜ (r .from ≡ childFrom part k) × (r .count ≡ childSize part k) ⌝ }
+fn child_at(counts: &[u32], part: NodePart, k: usize) -> Terms
+    requires { ⌜ (k < maxChildren) × (getD (part .children .nodes) k 0 < length (now counts)) ⌝ }
+    requires { ⌜ (length (now counts) ≤ maxNodes) × (part .capacity ≤ maxCapacity) ⌝ }
+    ensures { λ r. ⌜ (r .from ≡ childFrom part k) × (r .count ≡ childSize (now (counts .entry)) part k) ⌝ }
 {
     let children = part.children;
     let nodes = children.nodes;
-    let sizes = part.sizes;
+    let c = nodes[k] as usize;
     Terms {
-        from: (nodes[k] as usize) * part.capacity,
-        count: sizes[k],
+        from: c * part.capacity,
+        count: counts[c] as usize,
     }
 }
 
@@ -192,27 +189,29 @@ pub fn fill_node(
     an: &mut [u64],
     bp: &mut [u64],
     bn: &mut [u64],
+    counts: &[u32],
     part: NodePart,
 ) -> Kept
-    requires { ⌜ Laid (bySign (now positives) (now negatives)) part
-        × NodeGiven (bySign (now positives) (now negatives)) part (part .gate) ⌝ }
+    requires { ⌜ Laid (bySign (now positives) (now negatives)) (now counts) part
+        × NodeGiven (bySign (now positives) (now negatives)) (now counts) part (part .gate) ⌝ }
     requires { ⌜ HasPlace (part .capacity) (now ap) (now an) (now bp) (now bn) ⌝ }
     ensures { λ r. ⌜ PartFilled
-        (nodeMade (part .gate) (part .children .count) (childTerms (bySign (now (positives .entry)) (now (negatives .entry))) part))
+        (nodeMade (part .gate) (part .children .count)
+        (childTerms (bySign (now (positives .entry)) (now (negatives .entry))) (now (counts .entry)) part))
         (part .at) (part .capacity) (bySign (now (positives .entry)) (now (negatives .entry)))
         (bySign (now (positives .exit)) (now (negatives .exit))) r ⌝ }
 {
     let gate = part.gate;
     let children = part.children;
     let mut k = last_place(gate, children.count);
-    let mut high = child_at(part, k);
+    let mut high = child_at(counts, part, k);
     while 0 < k {
         k -= 1;
         let pair = Part {
             gate,
             at: part.at,
             capacity: part.capacity,
-            low: child_at(part, k),
+            low: child_at(counts, part, k),
             high,
         };
         let Kept::Count(c) = fill_part(positives, negatives, ap, an, bp, bn, pair) else {
@@ -226,44 +225,17 @@ pub fn fill_node(
     Kept::Count(high.count)
 }
 
-// Entry k, as an index.
-fn count_at(counts: &[u32], k: usize) -> usize
-    requires { ⌜ k < length (now counts) ⌝ }
-    ensures { λ r. ⌜ r ≡ getD (now (counts .entry)) k 0 ⌝ }
-{
-    counts[k] as usize
-}
-
-// How many terms each child has, 0 at the places of none.
-fn sizes_of(counts: &[u32], children: Children) -> [usize; MAX_CHILDREN]
-    requires { ⌜ (length (now counts) ≤ maxNodes) × ChildrenBelow (length (now counts)) children ⌝ }
-    ensures { λ r. ⌜ Sized (now (counts .entry)) children (children .count) r ⌝ }
-{
-    let nodes = children.nodes;
-    let count = children.count as usize;
-    let mut sizes = [0usize; MAX_CHILDREN];
-    let mut k = 0;
-    while k < count {
-        sizes[k] = count_at(counts, nodes[k] as usize);
-        k += 1;
-    }
-    sizes
-}
-
 // The part of node i.
-pub fn part_of(words: &[u32], counts: &[u32], i: usize, capacity: usize) -> NodePart
+pub fn part_of(words: &[u32], i: usize, capacity: usize) -> NodePart
     requires { ⌜ (i < maxNodes) × (capacity ≤ maxCapacity) × (wordsFor (i + 1) ≤ length (now words)) ⌝ }
-    requires { ⌜ (length (now counts) ≤ maxNodes) × ChildrenBelow (length (now counts)) (decodedAt (now words) i .children) ⌝ }
-    ensures { λ r. ⌜ IsPart (now (words .entry)) (now (counts .entry)) i capacity r ⌝ }
+    ensures { λ r. ⌜ IsPart (now (words .entry)) i capacity r ⌝ }
 {
     let node = decode_at(words, i);
     let gate = node.gate;
     let children = node.children;
-    let sizes = sizes_of(counts, children);
     NodePart {
         gate,
         children,
-        sizes,
         at: i * capacity,
         capacity,
     }

@@ -11,11 +11,9 @@ use lib.ListN.{length, set, length-replicate}
 use borrow.Author.Needs.{needs}
 use Rattle.table.specs.Layout.{wordsFor}
 use Rattle.table.specs.Node.{maxNodes}
-use Rattle.table.proofs.Encoding.{node-children}
 use Rattle.terms.specs.declared.Term.{Term}
 use Rattle.circuits.proofs.Accepted.{accepted-e, Accepted}
 use Rattle.circuits.proofs.Largest.{no-more}
-use Rattle.lists.specs.Capacity.{maxCapacity}
 use Rattle.insertion.specs.Filled.{bySign}
 use Rattle.insertion.specs.declared.Kept.{Kept}
 use Rattle.insertion.specs.declared.Kept.the-variants.{Count, Full}
@@ -58,10 +56,10 @@ then p = bySign (p .fill-node .last .0) (p .fill-node .last .1 .0)
 
 -- the part that was made for the call, the test before it, and its turn
 abbrev made : Called → tie.After-part-of Inv-loop μ-loop
-made p = p .before .before .before .before .before .before .before
+made p = p .before .before .before .before .before .before .before .before
 
 abbrev going : Called → tie.Then1 Inv-loop μ-loop
-going p = made p .before .before
+going p = made p .before
 
 abbrev turn : Called → Loop
 turn p = going p .before .before
@@ -148,24 +146,19 @@ loop-holds c =
 
 part-of-requires : tie.Need-part-of-requires Inv-loop μ-loop
 part-of-requires c κs =
-    let w = c .before in
-    let a = w .before .before in
+    let a = c .before .before in
     let s = start a in
     let x = s .args in
     let acc = accepts s in
-    let lt : a .loop .i < x .shape .nodes = w .if1 .taken in
+    let lt : a .loop .i < x .shape .nodes = c .if1 .taken in
     let most : x .shape .nodes ≤ maxNodes = nodes-le acc in
     let enough : wordsFor (x .shape .nodes) ≤ length (x .words .now) = words-enough acc in
-    let long : length (a .loop .counts) ≡ x .shape .nodes = counted a in
-    let cs = node-children (x .shape .variables) (a .loop .i) (x .words .now) (acc .well (a .loop .i) lt) in (
-      (omega arith, s .pre .0 .small, omega arith),
-      (omega arith, record { few = cs .few; each = λ k l. let q = cs .each k l in omega arith }),
-    )
+    (omega arith, s .pre .0 .small, omega arith)
 
 fill-node-requires : tie.Need-fill-node-requires Inv-loop μ-loop
 fill-node-requires c κs =
-    let q = c .before .before .before .before .before .before in
-    let w = q .before .before in
+    let q = c .before .before .before .before .before .before .before in
+    let w = q .before in
     let a = w .before .before in
     let s = start a in
     let x = s .args in

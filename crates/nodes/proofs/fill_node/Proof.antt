@@ -1,6 +1,6 @@
 -- `nodes::fill_node` meets its contract. The invariant: the lists from place k on are joined, or the one turn is to come or is over.
 use Prim.Native.Nat.{ℕ, suc, _-_, _<_}
-use mathlib.Core.Path.{_≡_, refl, sym, ap, subst, _∙_}
+use mathlib.Core.Path.{_≡_, refl, ap, subst, _∙_}
 use mathlib.Core.Bool.{Bool, true, false}
 use mathlib.Core.List.{List}
 use native.Mathlib.Omega.{arith}
@@ -15,12 +15,12 @@ use Rattle.nodes.proofs.fill_node.Statement.{statement}
 use Rattle.nodes.proofs.fill_node.Tie as tie
 
 abbrev Inv-loop : tie.InvT-loop
-Inv-loop positives₀ negatives₀ ap₀ an₀ bp₀ bn₀ part gate k₀ high₀ positives negatives ap an bp bn k high =
-    Filling (bySign positives₀ negatives₀) part k (bySign positives negatives) high
+Inv-loop positives₀ negatives₀ ap₀ an₀ bp₀ bn₀ counts part gate k₀ high₀ positives negatives ap an bp bn k high =
+    Filling (bySign positives₀ negatives₀) counts part k (bySign positives negatives) high
     × (length ap ≡ length ap₀) × (length an ≡ length an₀) × (length bp ≡ length bp₀) × (length bn ≡ length bn₀)
 
 abbrev μ-loop : tie.MeasureT-loop
-μ-loop positives₀ negatives₀ ap₀ an₀ bp₀ bn₀ part gate k₀ high₀ positives negatives ap an bp bn k high =
+μ-loop positives₀ negatives₀ ap₀ an₀ bp₀ bn₀ counts part gate k₀ high₀ positives negatives ap an bp bn k high =
     k
 
 abbrev Start : Type 0
@@ -30,7 +30,7 @@ abbrev Loop : Type 0
 Loop = tie.At-loop Inv-loop μ-loop
 
 abbrev start : Loop → Start
-start l = l .before .before .before .before .before .before .before .before .before .before
+start l = l .before .before .before .before .before .before .before .before .before .before .before
 
 abbrev lent : Start → Bool → List ℕ
 lent s = bySign (s .args .positives .now) (s .args .negatives .now)
@@ -52,9 +52,9 @@ then q = bySign (q .fill-part .last .0) (q .fill-part .last .1 .0)
 place : (l : Loop) → 0 < l .loop .k → l .loop .k ≡ suc (l .loop .k - 1)
 place l h = omega arith
 
-this : (l : Loop) → 0 < l .loop .k → Filling (lent (start l)) (start l .args .part) (suc (l .loop .k - 1)) (now l) (l .loop .high)
+this : (l : Loop) → 0 < l .loop .k → Filling (lent (start l)) (start l .args .counts .now) (start l .args .part) (suc (l .loop .k - 1)) (now l) (l .loop .high)
 this l h =
-    subst (λ (k : ℕ). Filling (lent (start l)) (start l .args .part) k (now l) (l .loop .high)) (place l h) (l .loop .inv .0)
+    subst (λ (k : ℕ). Filling (lent (start l)) (start l .args .counts .now) (start l .args .part) k (now l) (l .loop .high)) (place l h) (l .loop .inv .0)
 
 -- the call of a turn that ends the loop, and of one that goes on
 abbrev over : tie.After-enum-told Inv-loop μ-loop → Called
@@ -68,7 +68,7 @@ long : (q : Called) (b : Bool) → length (now (turn q) b) ≡ length (lent (sta
 long q b =
     let l = turn q in
     let s = start l in
-    filling-long (lent s) (s .args .part) (s .pre .0 .0) (s .pre .0 .1) (l .loop .k) (now l) (l .loop .high) (l .loop .inv .0) b
+    filling-long (lent s) (s .args .counts .now) (s .args .part) (s .pre .0 .0) (s .pre .0 .1) (l .loop .k) (now l) (l .loop .high) (l .loop .inv .0) b
 
 -- so does the scratch, with place for two children's terms
 has-place : (l : Loop)
@@ -80,20 +80,20 @@ has-place l =
 
 last-place-requires : tie.Need-last-place-requires Inv-loop μ-loop
 last-place-requires c κs =
-    let s = c .before .before .before .before .before .before .before in
-    last-some (lent s) (s .args .part) (s .pre .0 .0) (s .pre .0 .1)
+    let s = c .before .before .before .before .before .before .before .before in
+    last-some (lent s) (s .args .counts .now) (s .args .part) (s .pre .0 .0) (s .pre .0 .1)
 
 child-at-requires : tie.Need-child-at-requires Inv-loop μ-loop
 child-at-requires c κs =
-    let s = c .before .before .before .before .before .before .before .before in
-    let b = last-below (lent s) (s .args .part) (s .pre .0 .0) (s .pre .0 .1) in
+    let s = c .before .before .before .before .before .before .before .before .before in
+    let b = last-below (lent s) (s .args .counts .now) (s .args .part) (s .pre .0 .0) (s .pre .0 .1) in
     let e = c .last-place .ensures in
-    (omega arith, s .pre .0 .0 .words (c .last-place .result), s .pre .0 .0 .small)
+    ((omega arith, s .pre .0 .0 .words (c .last-place .result)), (s .pre .0 .0 .nodes, s .pre .0 .0 .small))
 
 loop-holds : tie.Need-loop-holds Inv-loop μ-loop
 loop-holds c =
-    let s = c .before .before .before .before .before .before .before .before .before in (
-      filling-start (lent s) (s .args .part) (s .pre .0 .0) (s .pre .0 .1) (c .before .last-place .result) (c .child-at .result)
+    let s = c .before .before .before .before .before .before .before .before .before .before in (
+      filling-start (lent s) (s .args .counts .now) (s .args .part) (s .pre .0 .0) (s .pre .0 .1) (c .before .last-place .result) (c .child-at .result)
           (c .before .last-place .ensures) (c .child-at .ensures .0) (c .child-at .ensures .1),
       refl,
       refl,
@@ -108,8 +108,8 @@ child-at-requires-2 : tie.Need-child-at-requires-2 Inv-loop μ-loop
 child-at-requires-2 c κs =
     let l = c .before in
     let s = start l in
-    let few = filling-few (lent s) (s .args .part) (s .pre .0 .0) (s .pre .0 .1) (l .loop .k) (now l) (l .loop .high) (l .loop .inv .0) in
-    (omega arith, s .pre .0 .0 .words (l .loop .k - 1), s .pre .0 .0 .small)
+    let few = filling-few (lent s) (s .args .counts .now) (s .args .part) (s .pre .0 .0) (s .pre .0 .1) (l .loop .k) (now l) (l .loop .high) (l .loop .inv .0) in
+    ((omega arith, s .pre .0 .0 .words (l .loop .k - 1)), (s .pre .0 .0 .nodes, s .pre .0 .0 .small))
 
 fill-part-requires : tie.Need-fill-part-requires Inv-loop μ-loop
 fill-part-requires c κs =
@@ -121,8 +121,8 @@ fill-part-requires c κs =
     let low = call .child-at2 .result in
     let f = call .child-at2 .ensures .0 in
     let n = call .child-at2 .ensures .1 in
-    let r = turn-rooms (lent s) x (s .pre .0 .0) (s .pre .0 .1) (l .loop .k - 1) (now l) (l .loop .high) low f n j in (
-      turn-given (lent s) x (s .pre .0 .0) (s .pre .0 .1) (l .loop .k - 1) (now l) (l .loop .high) low f n j,
+    let r = turn-rooms (lent s) (s .args .counts .now) x (s .pre .0 .0) (s .pre .0 .1) (l .loop .k - 1) (now l) (l .loop .high) low f n j in (
+      turn-given (lent s) (s .args .counts .now) x (s .pre .0 .0) (s .pre .0 .1) (l .loop .k - 1) (now l) (l .loop .high) low f n j,
       (
         (s .pre .0 .0 .small, r .0, r .1, r .2, r .3, r .4, r .5),
         has-place l,
@@ -159,7 +159,7 @@ returns c =
     let l = turn q in
     let s = start l in
     let call = q .before .before .before .before .before .before .before in
-    filling-full (lent s) (s .args .part) (s .pre .0 .0) (s .pre .0 .1) (l .loop .k - 1) (now l) (l .loop .high) (call .child-at2 .result)
+    filling-full (lent s) (s .args .counts .now) (s .args .part) (s .pre .0 .0) (s .pre .0 .1) (l .loop .k - 1) (now l) (l .loop .high) (call .child-at2 .result)
     (call .child-at2 .ensures .0) (call .child-at2 .ensures .1) (then q) Full
     (subst (PartFilled _ _ _ (now l) (then q)) (c .enum-told .given .1) (q .fill-part .ensures))
     (this l (call .before .loop-test .taken)) refl
@@ -174,7 +174,7 @@ loop-again c =
     let s = start l in
     let call = q .before .before .before .before .before .before .before in
     let n : ℕ = c .before .c .given .0 .0 in (
-      filling-more (lent s) (s .args .part) (s .pre .0 .0) (s .pre .0 .1) (l .loop .k - 1) (now l) (l .loop .high)
+      filling-more (lent s) (s .args .counts .now) (s .args .part) (s .pre .0 .0) (s .pre .0 .1) (l .loop .k - 1) (now l) (l .loop .high)
           (call .child-at2 .result) (call .child-at2 .ensures .0) (call .child-at2 .ensures .1) (then q) (q .fill-part .result)
           (q .fill-part .ensures) (this l (call .before .loop-test .taken)) n (c .before .c .given .1),
       q .fill-part .kept .1 .1 .0 ∙ l .loop .inv .1,
@@ -187,13 +187,13 @@ same-length-7 : tie.Need-same-length-7 Inv-loop μ-loop
 same-length-7 c =
     let l = c .before in
     let s = start l in
-    filling-long (lent s) (s .args .part) (s .pre .0 .0) (s .pre .0 .1) (l .loop .k) (now l) (l .loop .high) (l .loop .inv .0) true
+    filling-long (lent s) (s .args .counts .now) (s .args .part) (s .pre .0 .0) (s .pre .0 .1) (l .loop .k) (now l) (l .loop .high) (l .loop .inv .0) true
 
 same-length-8 : tie.Need-same-length-8 Inv-loop μ-loop
 same-length-8 c =
     let l = c .before in
     let s = start l in
-    filling-long (lent s) (s .args .part) (s .pre .0 .0) (s .pre .0 .1) (l .loop .k) (now l) (l .loop .high) (l .loop .inv .0) false
+    filling-long (lent s) (s .args .counts .now) (s .args .part) (s .pre .0 .0) (s .pre .0 .1) (l .loop .k) (now l) (l .loop .high) (l .loop .inv .0) false
 
 same-length-9 : tie.Need-same-length-9 Inv-loop μ-loop
 same-length-9 c = c .before .loop .inv .1
@@ -212,8 +212,8 @@ returns-2 c =
     let l = c .before in
     let s = start l in
     let z : l .loop .k ≡ 0 = omega arith in
-    filling-end (lent s) (s .args .part) (s .pre .0 .0) (s .pre .0 .1) (now l) (l .loop .high)
-    (subst (λ (k : ℕ). Filling (lent s) (s .args .part) k (now l) (l .loop .high)) z (l .loop .inv .0))
+    filling-end (lent s) (s .args .counts .now) (s .args .part) (s .pre .0 .0) (s .pre .0 .1) (now l) (l .loop .high)
+    (subst (λ (k : ℕ). Filling (lent s) (s .args .counts .now) (s .args .part) k (now l) (l .loop .high)) z (l .loop .inv .0))
 
 pub fill-node-spec : {M : Type 1} → statement M
 fill-node-spec =

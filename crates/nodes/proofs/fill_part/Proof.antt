@@ -29,9 +29,14 @@ copy-an q = copy-bp q .before .before .before .before .before
 abbrev copy-ap : tie.After-slice-known10 → tie.After-copy
 copy-ap q = copy-an q .before .before .before .before .before
 
+abbrev at-first : tie.After-copy → tie.Start
+at-first c = c .before .before .before .before .before .before .before .before .before .before .before .before
+
+abbrev at-third : tie.After-copy3 → tie.Start
+at-third c = at-first (c .before .before .before .before .before .before .before .before .before .before)
+
 abbrev start : tie.After-slice-known10 → tie.Start
-start q =
-    copy-ap q .before .before .before .before .before .before .before .before .before .before .before .before
+start q = at-first (copy-ap q)
 
 -- each scratch slice has place for the terms that were copied, and its front holds just them
 long-ap : (q : tie.After-slice-known10) → start q .args .part .low .count ≤ length (copy-ap q .copy .last .0)
@@ -94,7 +99,7 @@ copy-requires-3 c κs = search needs
 
 copy-requires-4 : tie.Need-copy-requires-4
 copy-requires-4 c κs =
-    let s = c .before .before .before .before .before .before .before .before .before .before .before .before .before .before .before .before .before .before .before .before .before .before .before .before .before .before in
+    let s = at-third (c .before .before .before .before) in
     let p = s .pre .1 .0 in
     (omega (arith, p .2, p .4, p .6), omega (arith, p .2, s .pre .1 .1 .3))
 

@@ -153,20 +153,39 @@ pub fn fill_columns(columns: &mut [u64], positives: &[u64], negatives: &[u64])
     }
 }
 
-// Leaves the bits of the terms that have the column's literal; says whether there are any.
-fn narrow(bits: &mut [u64; MAX_WORDS], column: &[u64]) -> bool
-    requires { ⌜ length (now column) ≤ maxWords ⌝ }
+// Leaves the bits of the terms that have the literals of both columns; says whether there are any.
+fn narrow(bits: &mut [u64; MAX_WORDS], one: &[u64], other: &[u64]) -> bool
+    requires { ⌜ (length (now one) ≤ maxWords) × (length (now other) ≡ length (now one)) ⌝ }
 {
     let mut any = 0;
-    for w in 0..column.len() {
-        let both = bits[w] & column[w];
-        bits[w] = both;
-        any = any | both;
+    for w in 0..one.len() {
+        let all = bits[w] & (one[w] & other[w]);
+        bits[w] = all;
+        any = any | all;
     }
     any != 0
 }
 
-// Leaves the bits of the terms that have the literals of one sign of the mask's variables; says whether there are any.
+// The lowest variable of a mask; v where there is none.
+fn lowest_or(mask: u64, v: usize) -> usize {
+    if mask != 0 {
+        return lowest(mask);
+    }
+    v
+}
+
+// The mask without its lowest variable, where there is one.
+fn shorter(mask: u64) -> u64
+    ensures { λ r. ⌜ r ≤ mask ⌝ }
+{
+    if mask != 0 {
+        return without_lowest(mask);
+    }
+    0
+}
+
+// Leaves the bits of the terms that have the literals of one sign of the mask's variables; says whether there are any. Two columns go at
+// once, so that the bits are read and written half as often; the last one may go with itself.
 fn narrow_all(
     bits: &mut [u64; MAX_WORDS],
     columns: &[u64],
@@ -179,15 +198,24 @@ fn narrow_all(
     let mut rest = mask;
     while rest != 0 {
         let v = lowest(rest);
+        let others = without_lowest(rest);
+        let u = lowest_or(others, v);
         if v >= VARIABLES {
             return true;
         }
-        let start = column_of(words, first + v);
-        let end = start + words;
-        if !narrow(bits, &columns[start..end]) {
+        if u >= VARIABLES {
+            return true;
+        }
+        let one = column_of(words, first + v);
+        let other = column_of(words, first + u);
+        if !narrow(
+            bits,
+            &columns[one..one + words],
+            &columns[other..other + words],
+        ) {
             return false;
         }
-        rest = without_lowest(rest);
+        rest = shorter(others);
     }
     true
 }

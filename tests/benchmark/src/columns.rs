@@ -43,27 +43,34 @@ impl<'a> Columns<'a> {
         self.made = true;
     }
 
-    /// Leaves the bits of the terms that have literal l; whether there are any.
-    fn narrow(&self, left: &mut Bits, l: usize) -> bool {
-        let (left, column) = (&mut left[..self.words], &self.bits[self.words * l..self.words * (l + 1)]);
+    fn column(&self, l: usize) -> &[u64] {
+        &self.bits[self.words * l..self.words * (l + 1)]
+    }
+
+    /// Leaves the bits of the terms that have literals k and l; whether there are any.
+    fn narrow(&self, left: &mut Bits, k: usize, l: usize) -> bool {
+        let columns = self.column(k).iter().zip(self.column(l));
         let mut any = 0;
-        for (word, has) in left.iter_mut().zip(column) {
-            *word &= has;
+        for (word, (has, also)) in left[..self.words].iter_mut().zip(columns) {
+            *word &= has & also;
             any |= *word;
         }
         any != 0
     }
 
     /// Leaves the bits of the terms that have the literals of a mask of one sign, from that sign's first on; whether there are any.
+    /// Two literals go at once, and an odd last one with itself.
     #[inline(always)]
     fn narrow_all(&self, steps: &mut impl Steps, left: &mut Bits, mask: u64, first: usize) -> bool {
         let mut mask = mask;
         while mask != 0 {
             steps.add(self.words);
-            if !self.narrow(left, first + mask.trailing_zeros() as usize) {
+            let rest = mask & (mask - 1);
+            let [k, l] = [mask, if rest != 0 { rest } else { mask }].map(|mask| first + mask.trailing_zeros() as usize);
+            if !self.narrow(left, k, l) {
                 return false;
             }
-            mask &= mask - 1;
+            mask = rest & rest.wrapping_sub(1);
         }
         true
     }

@@ -7,25 +7,31 @@ use Rattle.hints.proofs.narrow.Statement.{statement}
 use Rattle.hints.proofs.narrow.Tie as tie
 
 abbrev Inv-loop : tie.InvT-loop
-Inv-loop bits₀ column any₀ w₀ w-end bits any w = (w ≤ w-end) × (w-end ≡ length column)
+Inv-loop bits₀ one other any₀ w₀ w-end bits any w = (w ≤ w-end) × (w-end ≡ length one)
 
 abbrev μ-loop : tie.MeasureT-loop
-μ-loop bits₀ column any₀ w₀ w-end bits any w = w-end - w
+μ-loop bits₀ one other any₀ w₀ w-end bits any w = w-end - w
 
 loop-holds : tie.Need-loop-holds Inv-loop μ-loop
 loop-holds c = search needs
 
-mul-both : tie.Need-mul-both Inv-loop μ-loop
-mul-both c = search needs
+mul-all : tie.Need-mul-all Inv-loop μ-loop
+mul-all c = search needs
 
-element-copy-out-both : tie.Need-element-copy-out-both Inv-loop μ-loop
-element-copy-out-both c = search needs
+element-copy-out-all : tie.Need-element-copy-out-all Inv-loop μ-loop
+element-copy-out-all c = search needs
 
-mul-both-2 : tie.Need-mul-both-2 Inv-loop μ-loop
-mul-both-2 c = search needs
+mul-all-2 : tie.Need-mul-all-2 Inv-loop μ-loop
+mul-all-2 c = search needs
 
-shared-slice-read-both : tie.Need-shared-slice-read-both Inv-loop μ-loop
-shared-slice-read-both c = search needs
+shared-slice-read-all : tie.Need-shared-slice-read-all Inv-loop μ-loop
+shared-slice-read-all c = search needs
+
+mul-all-3 : tie.Need-mul-all-3 Inv-loop μ-loop
+mul-all-3 c = search needs
+
+shared-slice-read-all-2 : tie.Need-shared-slice-read-all-2 Inv-loop μ-loop
+shared-slice-read-all-2 c = search needs
 
 mul-bits : tie.Need-mul-bits Inv-loop μ-loop
 mul-bits c = search needs
@@ -52,10 +58,12 @@ narrow-spec =
     Inv-loop
     μ-loop
     loop-holds
-    mul-both
-    element-copy-out-both
-    mul-both-2
-    shared-slice-read-both
+    mul-all
+    element-copy-out-all
+    mul-all-2
+    shared-slice-read-all
+    mul-all-3
+    shared-slice-read-all-2
     mul-bits
     element-write-bits
     add-w

@@ -72,7 +72,7 @@ abbrev full : tie.After-enum-told Inv-loop μ-loop → Called
 full c = c .before .before .before .before .before .before .before .before .before .before .before .before .before .before
 
 tested : (p : Called) → turn p .loop .i < start (turn p) .args .shape .nodes
-tested p = going p .if1 .taken
+tested p = omega (arith, going p .if1 .taken)
 
 accepts : (s : Start) → let x = s .args in Accepted (x .shape .variables) (x .shape .nodes) (x .words .now)
 accepts s = let x = s .args in accepted-e (x .shape .variables) (x .shape .nodes) (x .words .now) (s .pre .0 .accepts)
@@ -150,7 +150,7 @@ part-of-requires c κs =
     let s = start a in
     let x = s .args in
     let acc = accepts s in
-    let lt : a .loop .i < x .shape .nodes = c .if1 .taken in
+    let lt : a .loop .i < x .shape .nodes = omega (arith, c .if1 .taken) in
     let most : x .shape .nodes ≤ maxNodes = nodes-le acc in
     let enough : wordsFor (x .shape .nodes) ≤ length (x .words .now) = words-enough acc in
     (omega arith, s .pre .0 .small, omega arith)
@@ -163,7 +163,7 @@ fill-node-requires c κs =
     let s = start a in
     let x = s .args in
     let acc = accepts s in
-    let lt : a .loop .i < x .shape .nodes = w .if1 .taken in
+    let lt : a .loop .i < x .shape .nodes = omega (arith, w .if1 .taken) in
     let st = a .loop .inv .1 in
     let part = q .part-of .result in
     let is = q .part-of .ensures in

@@ -56,6 +56,9 @@ this : (l : Loop) → 0 < l .loop .k → Filling (lent (start l)) (start l .args
 this l h =
     subst (λ (k : ℕ). Filling (lent (start l)) (start l .args .counts .now) (start l .args .part) k (now l) (l .loop .high)) (place l h) (l .loop .inv .0)
 
+tested : (p : tie.After-child-at2 Inv-loop μ-loop) → 0 < p .before .before .loop .k
+tested p = omega (arith, p .before .loop-test .taken)
+
 -- the call of a turn that ends the loop, and of one that goes on
 abbrev over : tie.After-enum-told Inv-loop μ-loop → Called
 over c = c .before .before .before .before .before .before .before .before .before .before .before .before .before .before
@@ -117,7 +120,7 @@ fill-part-requires c κs =
     let l = call .before .before in
     let s = start l in
     let x = s .args .part in
-    let j = this l (call .before .loop-test .taken) in
+    let j = this l (tested call) in
     let low = call .child-at2 .result in
     let f = call .child-at2 .ensures .0 in
     let n = call .child-at2 .ensures .1 in
@@ -162,7 +165,7 @@ returns c =
     filling-full (lent s) (s .args .counts .now) (s .args .part) (s .pre .0 .0) (s .pre .0 .1) (l .loop .k - 1) (now l) (l .loop .high) (call .child-at2 .result)
     (call .child-at2 .ensures .0) (call .child-at2 .ensures .1) (then q) Full
     (subst (PartFilled _ _ _ (now l) (then q)) (c .enum-told .given .1) (q .fill-part .ensures))
-    (this l (call .before .loop-test .taken)) refl
+    (this l (tested call)) refl
 
 loop-less : tie.Need-loop-less Inv-loop μ-loop
 loop-less c = search needs
@@ -176,7 +179,7 @@ loop-again c =
     let n : ℕ = c .before .c .given .0 .0 in (
       filling-more (lent s) (s .args .counts .now) (s .args .part) (s .pre .0 .0) (s .pre .0 .1) (l .loop .k - 1) (now l) (l .loop .high)
           (call .child-at2 .result) (call .child-at2 .ensures .0) (call .child-at2 .ensures .1) (then q) (q .fill-part .result)
-          (q .fill-part .ensures) (this l (call .before .loop-test .taken)) n (c .before .c .given .1),
+          (q .fill-part .ensures) (this l (tested call)) n (c .before .c .given .1),
       q .fill-part .kept .1 .1 .0 ∙ l .loop .inv .1,
       q .fill-part .kept .1 .1 .1 .0 ∙ l .loop .inv .2,
       q .fill-part .kept .1 .1 .1 .1 .0 ∙ l .loop .inv .3,

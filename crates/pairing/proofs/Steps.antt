@@ -41,11 +41,6 @@ pub kept-wider : {least least′ l : List Term} {kept : List ℕ} {k : ℕ} → 
     → KeptIn least l kept k → KeptIn least′ l kept k
 kept-wider h k = record { room = k .room; are-listed = k .are-listed; are-least = λ j i. h _ (k .are-least j i) }
 
--- what a row cost does not matter
-pub recounted : {ap an bp bn : List ℕ} {s : Bool → List ℕ} {kept : List ℕ} {c : Counts} → Growing ap an bp bn s kept c → (cost : ℕ)
-    → Growing ap an bp bn s kept (record { listed = c .listed; kept = c .kept; cost = cost })
-recounted g cost = record { at = g .at; front = g .front; keeps = g .keeps; room = g .room }
-
 -- ---- the sides the other way round
 abbrev pub at-turned : {ap an bp bn : List ℕ} → SidesAt ap an bp bn → SidesAt bp bn ap an
 at-turned h =

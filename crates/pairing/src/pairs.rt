@@ -1,5 +1,6 @@
 // All pairs of terms of the two sides, row by row: the side whose rows cost less goes on.
-ghost use Prim.Native.Nat.{_*_, _≤_, _<_};
+ghost use mathlib.Core.Path.{_≡_};
+ghost use Prim.Native.Nat.{_+_, _*_, _≤_, _<_};
 ghost use lib.ListN.{length};
 ghost use Rattle.terms.specs.Term.{termsOf};
 ghost use Rattle.lists.specs.Capacity.{maxCapacity};
@@ -48,6 +49,29 @@ fn goes_low(low: Side, high: Side, m: usize, n: usize) -> bool
     requires { ⌜ (m ≤ maxCapacity) × (n ≤ maxCapacity) ⌝ }
 {
     bounded(low.cost) * m <= bounded(high.cost) * n
+}
+
+// The side after its next row, which cost so much.
+fn moved(side: Side, cost: usize) -> Side
+    requires { ⌜ side .at < maxCapacity ⌝ }
+    ensures { λ r. ⌜ r .at ≡ side .at + 1 ⌝ }
+{
+    Side {
+        at: side.at + 1,
+        cost,
+        made: side.made,
+    }
+}
+
+// The side after a row of the other one: its columns were made where that cost something.
+fn met(side: Side, cost: usize) -> Side
+    ensures { λ r. ⌜ r .at ≡ side .at ⌝ }
+{
+    Side {
+        at: side.at,
+        cost: side.cost,
+        made: side.made | (cost > 0),
+    }
 }
 
 // Settles the next row of the low side.
@@ -104,16 +128,8 @@ fn step_low(
     Turned::Next(Turn {
         listed: c.listed,
         kept: c.kept,
-        low: Side {
-            at: at + 1,
-            cost: c.cost,
-            made: low.made,
-        },
-        high: Side {
-            at: high.at,
-            cost: high.cost,
-            made: high.made | (c.cost > 0),
-        },
+        low: moved(low, c.cost),
+        high: met(high, c.cost),
     })
 }
 
@@ -171,16 +187,8 @@ fn step_high(
     Turned::Next(Turn {
         listed: c.listed,
         kept: c.kept,
-        low: Side {
-            at: low.at,
-            cost: low.cost,
-            made: low.made | (c.cost > 0),
-        },
-        high: Side {
-            at: at + 1,
-            cost: c.cost,
-            made: high.made,
-        },
+        low: met(low, c.cost),
+        high: moved(high, c.cost),
     })
 }
 

@@ -37,6 +37,11 @@ module _ {ap an bp bn : List ℕ} {s : Bool → List ℕ} {kept : List ℕ} {c :
       )
   kept-grown s′ kept′ done Over h k = over-insert (g .front) t (least-terms (g .at .sides) t n) m k
 
+-- what a row cost does not matter
+pub recounted : {ap an bp bn : List ℕ} {s : Bool → List ℕ} {kept : List ℕ} {c : Counts} → Growing ap an bp bn s kept c → (cost : ℕ)
+    → Growing ap an bp bn s kept (record { listed = c .listed; kept = c .kept; cost = cost })
+recounted g cost = record { at = g .at; front = g .front; keeps = g .keeps; room = g .room }
+
 -- what holds of the list may be said otherwise
 pub grown-so : (more least : List Term) (done done′ : List Term → Type 0) (s : Bool → List ℕ) (count : ℕ) (s′ : Bool → List ℕ)
     (kept′ : List ℕ) (r : Growth) → ((l : List Term) → done l → done′ l) → Grown more least done s count s′ kept′ r
@@ -69,8 +74,8 @@ module _ {ap an bp bn : List ℕ} {s₀ : Bool → List ℕ} {kept₀ : List ℕ
     pub so-far-length : (b : Bool) → length (s b) ≡ length (s₀ b)
     so-far-length = grew-length (g .front) (h .grew)
 
-    pub so-far-growing : (cost : ℕ) → Growing ap an bp bn s kept (record { listed = c .listed; kept = c .kept; cost = cost })
-    so-far-growing cost =
+    pub so-far-growing : Growing ap an bp bn s kept c
+    so-far-growing =
         record { at = g .at; front = grew-front (g .front) (h .grew) (least-terms (g .at .sides)); keeps = h .keeps; room = h .room }
 
     pub so-far-next : {s′ : Bool → List ℕ} {kept′ : List ℕ} {d : Counts}

@@ -19,11 +19,11 @@ use super::counts::keep;
 use super::strike::strike;
 use terms::Term;
 
-// A place of the other side, how many terms are kept, what was spent on the row, and whether the columns are made.
+// The places of two terms, one of each side, how far the list has grown, and whether the columns are made.
 struct Pair {
-    at: usize,
-    kept: usize,
-    cost: usize,
+    low: usize,
+    high: usize,
+    counts: Counts,
     made: bool,
 }
 
@@ -55,15 +55,16 @@ fn try_kept(
     t: Term,
     pair: Pair,
 ) -> Tried
-    requires { ⌜ (length (now kept) ≤ 2 * maxCapacity) × (2 * (pair .kept) ≤ length (now kept))
+    requires { ⌜ (length (now kept) ≤ 2 * maxCapacity) × (2 * (pair .counts .kept) ≤ length (now kept))
         × HasColumns (bitWords (length (now bp))) (now columns) × (length (now left) ≡ maxWords)
-        × (length (now bn) ≡ length (now bp)) × (length (now bp) ≤ maxCapacity) × (pair .at < length (now bp)) ⌝ }
-    ensures { λ r. ⌜ Tries (now (kept .entry)) (pair .kept) t (termAt (now (bp .entry)) (now (bn .entry)) (pair .at)) r ⌝ }
+        × (length (now bn) ≡ length (now bp)) × (length (now bp) ≤ maxCapacity) × (pair .high < length (now bp)) ⌝ }
+    ensures { λ r. ⌜ Tries (now (kept .entry)) (pair .counts .kept) t (termAt (now (bp .entry)) (now (bn .entry)) (pair .high)) r ⌝ }
 {
-    let at = pair.at;
-    let count = pair.kept;
-    let cost = pair.cost;
+    let at = pair.high;
     let made = pair.made;
+    let counts = pair.counts;
+    let count = counts.kept;
+    let cost = counts.cost;
     let u = lists::term_at(bp, bn, at);
     if terms::conflict(t, u) {
         return Tried {
@@ -117,12 +118,6 @@ fn add_least(
     keep(positives, negatives, kept, counts, m)
 }
 
-// The places of two terms, one of each side.
-struct Places {
-    low: usize,
-    high: usize,
-}
-
 // Settles a pair that is not yet settled.
 fn settle(
     positives: &mut [u64],
@@ -132,30 +127,35 @@ fn settle(
     an: &[u64],
     bp: &[u64],
     bn: &[u64],
-    counts: Counts,
-    places: Places,
-    settled: bool,
+    pair: Pair,
+    tried: Tried,
 ) -> Growth
-    requires { ⌜ Growing (now ap) (now an) (now bp) (now bn) (bySign (now positives) (now negatives)) (now kept) counts ⌝ }
-    requires { ⌜ (places .low < length (now ap)) × (places .high < length (now bp)) ⌝ }
-    requires { ⌜ (settled ≡ true → Settled (leastJoins (termsOf (now ap) (now an)) (termsOf (now bp) (now bn)))
-        (held (bySign (now positives) (now negatives)) (counts .listed))
-        (termAt (now ap) (now an) (places .low)) (termAt (now bp) (now bn) (places .high)))
-        × (settled ≡ false → conflict (termAt (now ap) (now an) (places .low)) (termAt (now bp) (now bn) (places .high)) ≡ false) ⌝ }
+    requires { ⌜ Growing (now ap) (now an) (now bp) (now bn) (bySign (now positives) (now negatives)) (now kept) (pair .counts) ⌝ }
+    requires { ⌜ (pair .low < length (now ap)) × (pair .high < length (now bp)) ⌝ }
+    requires { ⌜ (tried .settled ≡ true → Settled (leastJoins (termsOf (now ap) (now an)) (termsOf (now bp) (now bn)))
+        (held (bySign (now positives) (now negatives)) (pair .counts .listed))
+        (termAt (now ap) (now an) (pair .low)) (termAt (now bp) (now bn) (pair .high)))
+        × (tried .settled ≡ false → conflict (termAt (now ap) (now an) (pair .low)) (termAt (now bp) (now bn) (pair .high)) ≡ false) ⌝ }
     ensures { λ r. ⌜ Grown (leastJoins (termsOf (now (ap .entry)) (now (an .entry))) (termsOf (now (bp .entry)) (now (bn .entry))))
         (leastJoins (termsOf (now (ap .entry)) (now (an .entry))) (termsOf (now (bp .entry)) (now (bn .entry))))
         (λ l. Settled (leastJoins (termsOf (now (ap .entry)) (now (an .entry))) (termsOf (now (bp .entry)) (now (bn .entry)))) l
-        (termAt (now (ap .entry)) (now (an .entry)) (places .low)) (termAt (now (bp .entry)) (now (bn .entry)) (places .high)))
-        (bySign (now (positives .entry)) (now (negatives .entry))) (counts .listed)
+        (termAt (now (ap .entry)) (now (an .entry)) (pair .low)) (termAt (now (bp .entry)) (now (bn .entry)) (pair .high)))
+        (bySign (now (positives .entry)) (now (negatives .entry))) (pair .counts .listed)
         (bySign (now (positives .exit)) (now (negatives .exit))) (now (kept .exit)) r ⌝ }
 {
-    if settled {
-        return Growth::To(counts);
+    let counts = pair.counts;
+    let spent = Counts {
+        listed: counts.listed,
+        kept: counts.kept,
+        cost: tried.cost,
+    };
+    if tried.settled {
+        return Growth::To(spent);
     }
-    let i = places.low;
-    let j = places.high;
+    let i = pair.low;
+    let j = pair.high;
     let q = terms::join(lists::term_at(ap, an, i), lists::term_at(bp, bn, j));
-    add_least(positives, negatives, kept, ap, an, bp, bn, counts, q)
+    add_least(positives, negatives, kept, ap, an, bp, bn, spent, q)
 }
 
 // Makes the last kept term, where it is new, the hint of the pairs of the row that it settles.
@@ -224,30 +224,14 @@ fn join_row(
     let mut j = row.from;
     while j < bp.len() {
         let pair = Pair {
-            at: j,
-            kept: counts.kept,
-            cost: counts.cost,
+            low: at,
+            high: j,
+            counts,
             made,
         };
         let tried = try_kept(kept, hints, columns, &mut left, bp, bn, t, pair);
-        let now = Counts {
-            listed: counts.listed,
-            kept: counts.kept,
-            cost: tried.cost,
-        };
-        let places = Places { low: at, high: j };
-        let Growth::To(next) = settle(
-            positives,
-            negatives,
-            kept,
-            ap,
-            an,
-            bp,
-            bn,
-            now,
-            places,
-            tried.settled,
-        ) else {
+        let Growth::To(next) = settle(positives, negatives, kept, ap, an, bp, bn, pair, tried)
+        else {
             return Growth::Over;
         };
         spread_new(
@@ -257,7 +241,7 @@ fn join_row(
             &mut left,
             words,
             t,
-            now.kept,
+            counts.kept,
             next.kept,
         );
         counts = next;

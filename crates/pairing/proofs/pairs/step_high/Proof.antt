@@ -14,9 +14,10 @@ use Rattle.settling.specs.Growth.{Grown}
 use Rattle.settling.specs.Sides.{leastJoins, SettledFrom}
 use Rattle.settling.specs.declared.counts.Growth.{Growth}
 use Rattle.settling.specs.declared.counts.Growth.the-variants.{To, Over}
+use Rattle.settling.proofs.Grows.{recounted}
 use borrow.Author.Needs.{needs}
 use Rattle.settling.proofs.Least.{least-turned}
-use Rattle.pairing.proofs.Steps.{stepped-high, recounted, growing-turned, grew-wider, over-wider, kept-wider}
+use Rattle.pairing.proofs.Steps.{stepped-high, growing-turned, grew-wider, over-wider, kept-wider}
 use Rattle.pairing.proofs.pairs.step_high.Statement.{statement}
 use Rattle.pairing.proofs.pairs.step_high.Tie as tie
 
@@ -100,9 +101,12 @@ returns c =
     let p = c .before .before .before .before .before .before .before .before .before .before .before .before in
     over-wider (least-turned (start p .pre .0 .growing .at .sides)) (told p Over (c .enum-told .given .1))
 
-add-t20 : tie.Need-add-t20
-add-t20 c =
-    let p = c .before .before .before .before .before .before .before .before .before .before .before .before .before .before .before in
+met-requires : tie.Need-met-requires
+met-requires c κs = search needs
+
+moved-requires : tie.Need-moved-requires
+moved-requires c κs =
+    let p = c .before .before .before .before .before .before .before .before .before .before .before .before .before .before in
     let q = start p .pre .0 in
     omega (arith, q .high-left, q .growing .at .few-high)
 
@@ -128,7 +132,7 @@ returns-2 c =
     let q = start p .pre .0 in
     let h = least-turned (q .growing .at .sides) in
     let t = told p (To (k .c .given .0 .0)) (k .c .given .1) in
-    (grew-wider h (t .0), kept-wider h (t .1), t .2, stepped-high (q .growing .at) (le-of-lt (q .low-left)) (q .high-left) (t .3))
+    (grew-wider h (t .0), kept-wider h (t .1), t .2, rw (c .before .met .ensures, c .moved .ensures) (stepped-high (q .growing .at) (le-of-lt (q .low-left)) (q .high-left) (t .3)))
 
 pub step-high-spec : {M : Type 1} → statement M
 step-high-spec =
@@ -149,7 +153,8 @@ step-high-spec =
     same-length-4
     same-length-5
     returns
-    add-t20
+    met-requires
+    moved-requires
     same-length-6
     same-length-7
     same-length-8

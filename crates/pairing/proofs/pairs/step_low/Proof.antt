@@ -14,8 +14,9 @@ use Rattle.settling.specs.Growth.{Grown}
 use Rattle.settling.specs.Sides.{leastJoins, SettledFrom}
 use Rattle.settling.specs.declared.counts.Growth.{Growth}
 use Rattle.settling.specs.declared.counts.Growth.the-variants.{To, Over}
+use Rattle.settling.proofs.Grows.{recounted}
 use borrow.Author.Needs.{needs}
-use Rattle.pairing.proofs.Steps.{stepped-low, recounted}
+use Rattle.pairing.proofs.Steps.{stepped-low}
 use Rattle.pairing.proofs.pairs.step_low.Statement.{statement}
 use Rattle.pairing.proofs.pairs.step_low.Tie as tie
 
@@ -105,10 +106,14 @@ returns : tie.Need-returns
 returns c =
     told (c .before .before .before .before .before .before .before .before .before .before .before .before) Over (c .enum-told .given .1)
 
-add-t22 : tie.Need-add-t22
-add-t22 c =
-    let q = start (c .before .before .before .before .before .before .before .before .before .before .before .before .before) .pre .0 in
+moved-requires : tie.Need-moved-requires
+moved-requires c κs =
+    let p = c .before .before .before .before .before .before .before .before .before .before .before .before .before in
+    let q = start p .pre .0 in
     omega (arith, q .low-left, q .growing .at .few-low)
+
+met-requires : tie.Need-met-requires
+met-requires c κs = search needs
 
 same-length-6 : tie.Need-same-length-6
 same-length-6 c = search needs
@@ -131,7 +136,7 @@ returns-2 c =
     let p = k .before .before .before .before .before .before .before .before .before .before .before .before in
     let q = start p .pre .0 in
     let t = told p (To (k .c .given .0 .0)) (k .c .given .1) in
-    (t .0, t .1, t .2, stepped-low (q .growing .at) (q .low-left) (le-of-lt (q .high-left)) (t .3))
+    (t .0, t .1, t .2, rw (c .before .moved .ensures, c .met .ensures) (stepped-low (q .growing .at) (q .low-left) (le-of-lt (q .high-left)) (t .3)))
 
 pub step-low-spec : {M : Type 1} → statement M
 step-low-spec =
@@ -155,7 +160,8 @@ step-low-spec =
     same-length-4
     same-length-5
     returns
-    add-t22
+    moved-requires
+    met-requires
     same-length-6
     same-length-7
     same-length-8

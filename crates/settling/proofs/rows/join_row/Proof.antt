@@ -118,7 +118,7 @@ settle-requires c κs =
     let a = turn p in
     let x = start a .args in
     let h = a .loop .inv .0 in (
-      so-far-growing (start a .pre .0) h (p .try-kept .result .cost),
+      so-far-growing (start a .pre .0) h,
       (
         (start a .pre .1 .0, p .before .before .before .before .before .loop-test .taken),
         (tried-settled (term a) (termAt (x .bp .now) (x .bn .now) (a .loop .j)) (h .keeps) (looked p), looked p .no),

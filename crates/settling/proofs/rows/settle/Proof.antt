@@ -9,20 +9,20 @@ use Rattle.lists.specs.Scans.{termAt}
 use Rattle.settling.specs.Sides.{leastJoins, Covered}
 use Rattle.settling.proofs.Down.{low-in, high-in}
 use Rattle.settling.proofs.Growth.{grew-none}
-use Rattle.settling.proofs.Grows.{grown-so}
+use Rattle.settling.proofs.Grows.{recounted, grown-so}
 use Rattle.settling.proofs.Least.{joined}
 use borrow.Author.Needs.{needs}
 use Rattle.settling.proofs.rows.settle.Statement.{statement}
 use Rattle.settling.proofs.rows.settle.Tie as tie
 
-made : (j : tie.After-join) → let x = j .before .before .before .before .before .before .before .before .before .before .before .args in
+made : (j : tie.After-join) → let x = j .before .before .before .before .before .before .before .before .before .before .before .before .args in
     j .join .result
-    ≡ join (termAt (x .ap .now) (x .an .now) (x .places .low)) (termAt (x .bp .now) (x .bn .now) (x .places .high))
+    ≡ join (termAt (x .ap .now) (x .an .now) (x .pair .low)) (termAt (x .bp .now) (x .bn .now) (x .pair .high))
 made j = j .join .ensures ∙ ap₂ join (j .before .before .term-at .ensures) (j .before .term-at2 .ensures)
 
 returns : tie.Need-returns
 returns c =
-    let s = c .before .before .before .before .before .before .before .before in
+    let s = c .before .before .before .before .before .before .before .before .before in
     let g = s .pre .0 in
     (grew-none (g .front), g .keeps, g .room, s .pre .1 .1 .0 (c .if1 .taken))
 
@@ -39,12 +39,12 @@ add-least-requires : tie.Need-add-least-requires
 add-least-requires c κs =
     let j = c .before .before .before in
     let e = j .before .before .before in
-    let s = e .before .before .before .before .before .before .before .before in
+    let s = e .before .before .before .before .before .before .before .before .before in
     let x = s .args in
     let h = s .pre .0 .at in (
-      s .pre .0,
+      recounted (s .pre .0) (x .tried .cost),
       subst (λ (q : Term). List·Memᴰ q (joins (termsOf (x .ap .now) (x .an .now)) (termsOf (x .bp .now) (x .bn .now)))) (sym (made j))
-          (joined (h .sides) _ _ (low-in h (x .places .low) (s .pre .1 .0 .0)) (high-in h (x .places .high) (s .pre .1 .0 .1))
+          (joined (h .sides) _ _ (low-in h (x .pair .low) (s .pre .1 .0 .0)) (high-in h (x .pair .high) (s .pre .1 .0 .1))
           (s .pre .1 .1 .1 (e .if1 .left))),
     )
 
@@ -61,7 +61,7 @@ returns-2 : tie.Need-returns-2
 returns-2 c =
     let k = c .before .before .before .before .before .before in
     let j = k .before .before .before .before in
-    let s = j .before .before .before .before .before .before .before .before .before .before .before in
+    let s = j .before .before .before .before .before .before .before .before .before .before .before .before in
     let x = s .args in
     let least : List Term = leastJoins (termsOf (x .ap .now) (x .an .now)) (termsOf (x .bp .now) (x .bn .now)) in
     grown-so least least (λ l. Covered least l (j .join .result)) _ _ _ _ _ (k .add-least .result)

@@ -55,7 +55,7 @@ hint-at-requires-2 c κs = search needs
 covers-requires-2 : tie.Need-covers-requires-2
 covers-requires-2 c κs =
     let k = c .before .before .before .before .before .before .before .before .before .before .before .before .before .before .before in
-    k .before .before .before .before .before .before .before .before .before .before .before .before .before .before .pre .1
+    k .before .before .before .before .before .before .before .before .before .before .before .before .before .before .before .pre .1
 
 same-length-3 : tie.Need-same-length-3
 same-length-3 c = search needs

@@ -47,7 +47,8 @@ module _ (s : Bool → List ℕ) (counts : List ℕ) (p : NodePart) where
     pub there : high .from + p .capacity ≤ length (s true)
     pub whole : k + 2 ≤ p .children .count → list ≡ after k
 
-module _ (s : Bool → List ℕ) (counts : List ℕ) (p : NodePart) (lies : Laid s counts p) (given : Conjoined (childTerms s counts p) (p .children .count)) where
+module _ (s : Bool → List ℕ) (counts : List ℕ) (p : NodePart) (lies : Laid s counts p)
+    (given : Conjoined (childTerms s counts p) (p .children .count)) where
   abbrev v : ℕ → List Term
   v = childTerms s counts p
 
@@ -127,7 +128,8 @@ module _ (s : Bool → List ℕ) (counts : List ℕ) (p : NodePart) (lies : Laid
     kept-even = kept-long false ∙ lies .even ∙ sym (kept-long true)
 
     -- the child's terms are where they were
-    pub child-same : (b : Bool) → take (childSize counts p k) (drop (childFrom p k) (s′ b)) ≡ take (childSize counts p k) (drop (childFrom p k) (s b))
+    pub child-same : (b : Bool)
+        → take (childSize counts p k) (drop (childFrom p k) (s′ b)) ≡ take (childSize counts p k) (drop (childFrom p k) (s b))
     child-same b =
         let low : childFrom p k + p .capacity ≤ p .at = lies .below k (let h = j .some in omega arith) in
         let few : childSize counts p k ≤ p .capacity = lies .sizes k in

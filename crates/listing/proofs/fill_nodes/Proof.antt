@@ -94,16 +94,20 @@ zero-counts s = ap length (s .pre .0 .counts) ∙ length-replicate (s .args .sha
 -- so does the scratch, with place for two children's terms
 has-place : (a : Loop)
     → HasPlace (start a .args .shape .capacity) (a .loop .ap) (a .loop .an) (a .loop .bp) (a .loop .bn)
-has-place a =
-    let p = start a .pre .1 in
-    let i = a .loop .inv .2 in
-    (omega (arith, p .0, i .0), omega (arith, p .1, i .1), omega (arith, p .2, i .2), omega (arith, p .3, i .3))
+has-place a = let i = a .loop .inv .2 in rw (i .0, i .1, i .2, i .3) (start a .pre .1)
+
+-- the prime implicants of a turn's node, and that the nodes below i are listed
+abbrev own : Loop → List Term
+own a = let x = start a .args in nodePrimes (x .shape .variables) (x .words .now) (a .loop .i)
+
+abbrev Listed : (s : Start) → ℕ → (Bool → List ℕ) → List ℕ → Type 0
+Listed s i b cs = let h = s .args .shape in State (h .variables) (s .args .words .now) (h .capacity) (h .nodes) i b cs
 
 -- the part was filled with the node's prime implicants
 told : (p : Called) (r : Kept) → p .fill-node .result ≡ r
     → let a = turn p in
-    let x = start a .args in
-    PartFilled (nodePrimes (x .shape .variables) (x .words .now) (a .loop .i)) (a .loop .i * x .shape .capacity) (x .shape .capacity) (now a) (then p) r
+    let R = start a .args .shape .capacity in
+    PartFilled (own a) (a .loop .i * R) R (now a) (then p) r
 told p r e =
     let a = turn p in
     let s = start a in
@@ -113,25 +117,22 @@ told p r e =
     let part = q .part-of .result in
     let is = q .part-of .ensures in
     let own-is = part-made (accepts s) (a .loop .inv .1) (tested p) (s .pre .0 .small) part is in
-    let own : List Term = nodePrimes (x .shape .variables) (x .words .now) i in
+    let l : List Term = own a in
     let r′ : Kept = p .fill-node .result in
-    subst (PartFilled own (i * x .shape .capacity) (x .shape .capacity) (now a) (then p)) e
-    (subst (λ (m : ℕ). PartFilled own m (x .shape .capacity) (now a) (then p) r′) (is .at)
-    (subst (λ (m : ℕ). PartFilled own (part .at) m (now a) (then p) r′) (is .capacity-is)
-    (subst (λ (l : List Term). PartFilled l (part .at) (part .capacity) (now a) (then p) r′) own-is (p .fill-node .ensures))))
+    subst (PartFilled l (i * x .shape .capacity) (x .shape .capacity) (now a) (then p)) e
+    (subst (λ (m : ℕ). PartFilled l m (x .shape .capacity) (now a) (then p) r′) (is .at)
+    (subst (λ (m : ℕ). PartFilled l (part .at) m (now a) (then p) r′) (is .capacity-is)
+    (subst (λ (k : List Term). PartFilled k (part .at) (part .capacity) (now a) (then p) r′) own-is (p .fill-node .ensures))))
 
 -- the count that was answered
 count : (c : tie.After-c Inv-loop μ-loop)
     → let a = turn (kept c) in
-    let x = start a .args in
-    let l = nodePrimes (x .shape .variables) (x .words .now) (a .loop .i) in
-    (length l ≤ x .shape .capacity) × (c .c .given .0 .0 ≡ length l)
+    (length (own a) ≤ start a .args .shape .capacity) × (c .c .given .0 .0 ≡ length (own a))
 count c =
     let p = kept c in
     let a = turn p in
-    let x = start a .args in
     let n : ℕ = c .c .given .0 .0 in
-    kept-count (x .shape .capacity) (nodePrimes (x .shape .variables) (x .words .now) (a .loop .i)) n (told p (Count n) (c .c .given .1) .answer)
+    kept-count (start a .args .shape .capacity) (own a) n (told p (Count n) (c .c .given .1) .answer)
 
 loop-holds : tie.Need-loop-holds Inv-loop μ-loop
 loop-holds c =
@@ -167,7 +168,8 @@ fill-node-requires c κs =
     let st = a .loop .inv .1 in
     let part = q .part-of .result in
     let is = q .part-of .ensures in
-    let place = subst (λ (m : ℕ). HasPlace m (a .loop .ap) (a .loop .an) (a .loop .bp) (a .loop .bn)) (sym (is .capacity-is)) (has-place a) in
+    let place =
+    subst (λ (m : ℕ). HasPlace m (a .loop .ap) (a .loop .an) (a .loop .bp) (a .loop .bn)) (sym (is .capacity-is)) (has-place a) in
     ((part-lies acc st lt (s .pre .0 .small) part is, part-given acc st lt (s .pre .0 .small) part is), place)
 
 enum-known-c : tie.Need-enum-known-c Inv-loop μ-loop
@@ -210,8 +212,8 @@ returns c =
     let s = start a in
     let x = s .args in
     let lt : a .loop .i < x .shape .nodes = tested p in
-    let over : x .shape .capacity < length (nodePrimes (x .shape .variables) (x .words .now) (a .loop .i)) =
-    kept-full (x .shape .capacity) (nodePrimes (x .shape .variables) (x .words .now) (a .loop .i)) (told p Full (c .enum-told .given .1) .answer) in
+    let over : x .shape .capacity < length (own a) =
+    kept-full (x .shape .capacity) (own a) (told p Full (c .enum-told .given .1) .answer) in
     tried-full (x .shape .variables) (x .shape .nodes) (x .words .now) (x .shape .capacity) (then p) (a .loop .counts)
     (lt-of-lt-of-le over (no-more (accepts s) (a .loop .i) lt))
 
@@ -253,7 +255,7 @@ loop-again c =
     let lt : i < x .shape .nodes = tested p in
     let k : ℕ = d .c .given .0 .0 in (
       omega arith,
-      subst (λ (m : ℕ). State (x .shape .variables) (x .words .now) (x .shape .capacity) (x .shape .nodes) m (then p) (set (a .loop .counts) i k)) (sym (add-one i))
+      subst (λ (m : ℕ). Listed s m (then p) (set (a .loop .counts) i k)) (sym (add-one i))
           (state-more (a .loop .inv .1) lt (then p)
           (set (a .loop .counts) i k) (count d .0) (told p (Count k) (d .c .given .1) .masks (count d .0))
           (ap (set (a .loop .counts) i) (count d .1))),
@@ -294,7 +296,7 @@ returns-2 c =
     let e : a .loop .i ≡ x .shape .nodes = omega arith in
     tried-all (x .shape .variables) (x .shape .nodes) (x .words .now) (x .shape .capacity) (now a) (a .loop .counts)
     (nodes-some (accepts s))
-    (subst (λ (m : ℕ). State (x .shape .variables) (x .words .now) (x .shape .capacity) (x .shape .nodes) m (now a) (a .loop .counts)) e (a .loop .inv .1))
+    (subst (λ (m : ℕ). Listed s m (now a) (a .loop .counts)) e (a .loop .inv .1))
 
 pub fill-nodes-spec : {M : Type 1} → statement M
 fill-nodes-spec =

@@ -53,7 +53,8 @@ returns : tie.Need-returns
 returns c =
     let f = c .before .before .before .before .before .before .before in
     let x = start (cleared f) .args in
-    exact-all (x .shape .variables) (x .shape .nodes) (x .words .now) (x .shape .capacity) (buffers f) (f .fill-all .last .1 .1 .0) (f .fill-all .result)
+    let h = x .shape in
+    exact-all (h .variables) (h .nodes) (x .words .now) (h .capacity) (buffers f) (f .fill-all .last .1 .1 .0) (f .fill-all .result)
     (f .fill-all .ensures) (c .if1 .taken)
 
 clear-requires-2 : tie.Need-clear-requires-2
@@ -76,17 +77,18 @@ returns-2 c =
     let k = cleared f in
     let s = start k in
     let x = s .args in
+    let h = x .shape in
     let d = z .clear2 .ensures in
-    let p : length (f .fill-all .last .0) ≡ x .shape .nodes * x .shape .capacity = f .fill-all .kept .0 ∙ k .clear .kept .0 ∙ s .pre .1 .0 in
-    let q : length (f .fill-all .last .1 .0) ≡ x .shape .nodes * x .shape .capacity = f .fill-all .kept .1 .0 ∙ k .clear .kept .1 .0 ∙ s .pre .1 .1 in
-    let m : length (f .fill-all .last .1 .1 .0) ≡ x .shape .nodes = f .fill-all .kept .1 .1 .0 ∙ k .clear .kept .1 .1 .0 ∙ s .pre .0 .2 in
-    exact-none (x .shape .variables) (x .shape .nodes) (x .words .now) (x .shape .capacity) (buffers f) (f .fill-all .last .1 .1 .0) (f .fill-all .result)
+    let p : length (f .fill-all .last .0) ≡ h .nodes * h .capacity = f .fill-all .kept .0 ∙ k .clear .kept .0 ∙ s .pre .1 .0 in
+    let q : length (f .fill-all .last .1 .0) ≡ h .nodes * h .capacity = f .fill-all .kept .1 .0 ∙ k .clear .kept .1 .0 ∙ s .pre .1 .1 in
+    let m : length (f .fill-all .last .1 .1 .0) ≡ h .nodes = f .fill-all .kept .1 .1 .0 ∙ k .clear .kept .1 .1 .0 ∙ s .pre .0 .2 in
+    exact-none (h .variables) (h .nodes) (x .words .now) (h .capacity) (buffers f) (f .fill-all .last .1 .1 .0) (f .fill-all .result)
     (f .fill-all .ensures) (bySign (z .clear2 .last .0) (z .clear2 .last .1 .0)) (z .clear2 .last .1 .1 .0) (e .if1 .left)
     (λ b. elim b [
-      | true ↦ zeros-of (x .shape .nodes * x .shape .capacity) (z .clear2 .last .0) (f .fill-all .last .0) (d .0) p
-      | false ↦ zeros-of (x .shape .nodes * x .shape .capacity) (z .clear2 .last .1 .0) (f .fill-all .last .1 .0) (d .1) q
+      | true ↦ zeros-of (h .nodes * h .capacity) (z .clear2 .last .0) (f .fill-all .last .0) (d .0) p
+      | false ↦ zeros-of (h .nodes * h .capacity) (z .clear2 .last .1 .0) (f .fill-all .last .1 .0) (d .1) q
     ])
-    (zeros-of (x .shape .nodes) (z .clear2 .last .1 .1 .0) (f .fill-all .last .1 .1 .0) (d .2) m)
+    (zeros-of (h .nodes) (z .clear2 .last .1 .1 .0) (f .fill-all .last .1 .1 .0) (d .2) m)
 
 pub list-exact-spec : {M : Type 1} → statement M
 list-exact-spec =

@@ -35,6 +35,10 @@ start l = l .before .before .before .before .before .before .before .before .bef
 abbrev lent : Start → Bool → List ℕ
 lent s = bySign (s .args .positives .now) (s .args .negatives .now)
 
+-- the counts of all nodes
+abbrev counts : Start → List ℕ
+counts s = s .args .counts .now
+
 abbrev now : Loop → Bool → List ℕ
 now l = bySign (l .loop .positives) (l .loop .negatives)
 
@@ -52,9 +56,11 @@ then q = bySign (q .fill-part .last .0) (q .fill-part .last .1 .0)
 place : (l : Loop) → 0 < l .loop .k → l .loop .k ≡ suc (l .loop .k - 1)
 place l h = omega arith
 
-this : (l : Loop) → 0 < l .loop .k → Filling (lent (start l)) (start l .args .counts .now) (start l .args .part) (suc (l .loop .k - 1)) (now l) (l .loop .high)
-this l h =
-    subst (λ (k : ℕ). Filling (lent (start l)) (start l .args .counts .now) (start l .args .part) k (now l) (l .loop .high)) (place l h) (l .loop .inv .0)
+abbrev At : (l : Loop) → ℕ → Type 0
+At l k = let s = start l in Filling (lent s) (counts s) (s .args .part) k (now l) (l .loop .high)
+
+this : (l : Loop) → 0 < l .loop .k → At l (suc (l .loop .k - 1))
+this l h = subst (At l) (place l h) (l .loop .inv .0)
 
 tested : (p : tie.After-child-at2 Inv-loop μ-loop) → 0 < p .before .before .loop .k
 tested p = omega (arith, p .before .loop-test .taken)
@@ -67,36 +73,33 @@ abbrev goes : tie.After-known-told Inv-loop μ-loop → Called
 goes c = c .before .before .before .before .before .before .before .before .before .before .before .before .before .before .before
 
 -- the buffers keep their lengths
-long : (q : Called) (b : Bool) → length (now (turn q) b) ≡ length (lent (start (turn q)) b)
-long q b =
-    let l = turn q in
+long : (l : Loop) (b : Bool) → length (now l b) ≡ length (lent (start l) b)
+long l b =
     let s = start l in
-    filling-long (lent s) (s .args .counts .now) (s .args .part) (s .pre .0 .0) (s .pre .0 .1) (l .loop .k) (now l) (l .loop .high) (l .loop .inv .0) b
+    filling-long (lent s) (counts s) (s .args .part) (s .pre .0 .0) (s .pre .0 .1) (l .loop .k) (now l) (l .loop .high)
+    (l .loop .inv .0) b
 
 -- so does the scratch, with place for two children's terms
 has-place : (l : Loop)
     → HasPlace (start l .args .part .capacity) (l .loop .ap) (l .loop .an) (l .loop .bp) (l .loop .bn)
-has-place l =
-    let p = start l .pre .1 in
-    let i = l .loop .inv in
-    (omega (arith, p .0, i .1), omega (arith, p .1, i .2), omega (arith, p .2, i .3), omega (arith, p .3, i .4))
+has-place l = let i = l .loop .inv in rw (i .1, i .2, i .3, i .4) (start l .pre .1)
 
 last-place-requires : tie.Need-last-place-requires Inv-loop μ-loop
 last-place-requires c κs =
     let s = c .before .before .before .before .before .before .before .before in
-    last-some (lent s) (s .args .counts .now) (s .args .part) (s .pre .0 .0) (s .pre .0 .1)
+    last-some (lent s) (counts s) (s .args .part) (s .pre .0 .0) (s .pre .0 .1)
 
 child-at-requires : tie.Need-child-at-requires Inv-loop μ-loop
 child-at-requires c κs =
     let s = c .before .before .before .before .before .before .before .before .before in
-    let b = last-below (lent s) (s .args .counts .now) (s .args .part) (s .pre .0 .0) (s .pre .0 .1) in
+    let b = last-below (lent s) (counts s) (s .args .part) (s .pre .0 .0) (s .pre .0 .1) in
     let e = c .last-place .ensures in
     ((omega arith, s .pre .0 .0 .words (c .last-place .result)), (s .pre .0 .0 .nodes, s .pre .0 .0 .small))
 
 loop-holds : tie.Need-loop-holds Inv-loop μ-loop
 loop-holds c =
     let s = c .before .before .before .before .before .before .before .before .before .before in (
-      filling-start (lent s) (s .args .counts .now) (s .args .part) (s .pre .0 .0) (s .pre .0 .1) (c .before .last-place .result) (c .child-at .result)
+      filling-start (lent s) (counts s) (s .args .part) (s .pre .0 .0) (s .pre .0 .1) (c .before .last-place .result) (c .child-at .result)
           (c .before .last-place .ensures) (c .child-at .ensures .0) (c .child-at .ensures .1),
       refl,
       refl,
@@ -111,7 +114,8 @@ child-at-requires-2 : tie.Need-child-at-requires-2 Inv-loop μ-loop
 child-at-requires-2 c κs =
     let l = c .before in
     let s = start l in
-    let few = filling-few (lent s) (s .args .counts .now) (s .args .part) (s .pre .0 .0) (s .pre .0 .1) (l .loop .k) (now l) (l .loop .high) (l .loop .inv .0) in
+    let few =
+    filling-few (lent s) (counts s) (s .args .part) (s .pre .0 .0) (s .pre .0 .1) (l .loop .k) (now l) (l .loop .high) (l .loop .inv .0) in
     ((omega arith, s .pre .0 .0 .words (l .loop .k - 1)), (s .pre .0 .0 .nodes, s .pre .0 .0 .small))
 
 fill-part-requires : tie.Need-fill-part-requires Inv-loop μ-loop
@@ -124,8 +128,8 @@ fill-part-requires c κs =
     let low = call .child-at2 .result in
     let f = call .child-at2 .ensures .0 in
     let n = call .child-at2 .ensures .1 in
-    let r = turn-rooms (lent s) (s .args .counts .now) x (s .pre .0 .0) (s .pre .0 .1) (l .loop .k - 1) (now l) (l .loop .high) low f n j in (
-      turn-given (lent s) (s .args .counts .now) x (s .pre .0 .0) (s .pre .0 .1) (l .loop .k - 1) (now l) (l .loop .high) low f n j,
+    let r = turn-rooms (lent s) (counts s) x (s .pre .0 .0) (s .pre .0 .1) (l .loop .k - 1) (now l) (l .loop .high) low f n j in (
+      turn-given (lent s) (counts s) x (s .pre .0 .0) (s .pre .0 .1) (l .loop .k - 1) (now l) (l .loop .high) low f n j,
       (
         (s .pre .0 .0 .small, r .0, r .1, r .2, r .3, r .4, r .5),
         has-place l,
@@ -139,10 +143,10 @@ enum-told : tie.Need-enum-told Inv-loop μ-loop
 enum-told c = search needs
 
 same-length : tie.Need-same-length Inv-loop μ-loop
-same-length c = let q = over c in q .fill-part .kept .0 ∙ long q true
+same-length c = let q = over c in q .fill-part .kept .0 ∙ long (turn q) true
 
 same-length-2 : tie.Need-same-length-2 Inv-loop μ-loop
-same-length-2 c = let q = over c in q .fill-part .kept .1 .0 ∙ long q false
+same-length-2 c = let q = over c in q .fill-part .kept .1 .0 ∙ long (turn q) false
 
 same-length-3 : tie.Need-same-length-3 Inv-loop μ-loop
 same-length-3 c = let q = over c in q .fill-part .kept .1 .1 .0 ∙ turn q .loop .inv .1
@@ -162,8 +166,8 @@ returns c =
     let l = turn q in
     let s = start l in
     let call = q .before .before .before .before .before .before .before in
-    filling-full (lent s) (s .args .counts .now) (s .args .part) (s .pre .0 .0) (s .pre .0 .1) (l .loop .k - 1) (now l) (l .loop .high) (call .child-at2 .result)
-    (call .child-at2 .ensures .0) (call .child-at2 .ensures .1) (then q) Full
+    filling-full (lent s) (counts s) (s .args .part) (s .pre .0 .0) (s .pre .0 .1) (l .loop .k - 1) (now l) (l .loop .high)
+    (call .child-at2 .result) (call .child-at2 .ensures .0) (call .child-at2 .ensures .1) (then q) Full
     (subst (PartFilled _ _ _ (now l) (then q)) (c .enum-told .given .1) (q .fill-part .ensures))
     (this l (tested call)) refl
 
@@ -177,7 +181,7 @@ loop-again c =
     let s = start l in
     let call = q .before .before .before .before .before .before .before in
     let n : ℕ = c .before .c .given .0 .0 in (
-      filling-more (lent s) (s .args .counts .now) (s .args .part) (s .pre .0 .0) (s .pre .0 .1) (l .loop .k - 1) (now l) (l .loop .high)
+      filling-more (lent s) (counts s) (s .args .part) (s .pre .0 .0) (s .pre .0 .1) (l .loop .k - 1) (now l) (l .loop .high)
           (call .child-at2 .result) (call .child-at2 .ensures .0) (call .child-at2 .ensures .1) (then q) (q .fill-part .result)
           (q .fill-part .ensures) (this l (tested call)) n (c .before .c .given .1),
       q .fill-part .kept .1 .1 .0 ∙ l .loop .inv .1,
@@ -187,16 +191,10 @@ loop-again c =
     )
 
 same-length-7 : tie.Need-same-length-7 Inv-loop μ-loop
-same-length-7 c =
-    let l = c .before in
-    let s = start l in
-    filling-long (lent s) (s .args .counts .now) (s .args .part) (s .pre .0 .0) (s .pre .0 .1) (l .loop .k) (now l) (l .loop .high) (l .loop .inv .0) true
+same-length-7 c = long (c .before) true
 
 same-length-8 : tie.Need-same-length-8 Inv-loop μ-loop
-same-length-8 c =
-    let l = c .before in
-    let s = start l in
-    filling-long (lent s) (s .args .counts .now) (s .args .part) (s .pre .0 .0) (s .pre .0 .1) (l .loop .k) (now l) (l .loop .high) (l .loop .inv .0) false
+same-length-8 c = long (c .before) false
 
 same-length-9 : tie.Need-same-length-9 Inv-loop μ-loop
 same-length-9 c = c .before .loop .inv .1
@@ -215,8 +213,8 @@ returns-2 c =
     let l = c .before in
     let s = start l in
     let z : l .loop .k ≡ 0 = omega arith in
-    filling-end (lent s) (s .args .counts .now) (s .args .part) (s .pre .0 .0) (s .pre .0 .1) (now l) (l .loop .high)
-    (subst (λ (k : ℕ). Filling (lent s) (s .args .counts .now) (s .args .part) k (now l) (l .loop .high)) z (l .loop .inv .0))
+    filling-end (lent s) (counts s) (s .args .part) (s .pre .0 .0) (s .pre .0 .1) (now l) (l .loop .high)
+    (subst (At l) z (l .loop .inv .0))
 
 pub fill-node-spec : {M : Type 1} → statement M
 fill-node-spec =

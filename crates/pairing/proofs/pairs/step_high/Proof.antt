@@ -132,7 +132,8 @@ returns-2 c =
     let q = start p .pre .0 in
     let h = least-turned (q .growing .at .sides) in
     let t = told p (To (k .c .given .0 .0)) (k .c .given .1) in
-    (grew-wider h (t .0), kept-wider h (t .1), t .2, rw (c .before .met .ensures, c .moved .ensures) (stepped-high (q .growing .at) (le-of-lt (q .low-left)) (q .high-left) (t .3)))
+    let next = stepped-high (q .growing .at) (le-of-lt (q .low-left)) (q .high-left) (t .3) in
+    (grew-wider h (t .0), kept-wider h (t .1), t .2, rw (c .before .met .ensures, c .moved .ensures) next)
 
 pub step-high-spec : {M : Type 1} → statement M
 step-high-spec =

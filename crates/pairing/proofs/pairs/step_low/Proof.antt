@@ -136,7 +136,8 @@ returns-2 c =
     let p = k .before .before .before .before .before .before .before .before .before .before .before .before in
     let q = start p .pre .0 in
     let t = told p (To (k .c .given .0 .0)) (k .c .given .1) in
-    (t .0, t .1, t .2, rw (c .before .moved .ensures, c .met .ensures) (stepped-low (q .growing .at) (q .low-left) (le-of-lt (q .high-left)) (t .3)))
+    let next = stepped-low (q .growing .at) (q .low-left) (le-of-lt (q .high-left)) (t .3) in
+    (t .0, t .1, t .2, rw (c .before .moved .ensures, c .met .ensures) next)
 
 pub step-low-spec : {M : Type 1} → statement M
 step-low-spec =

@@ -15,7 +15,10 @@ use borrow.Author.Needs.{needs}
 use Rattle.settling.proofs.rows.settle.Statement.{statement}
 use Rattle.settling.proofs.rows.settle.Tie as tie
 
-made : (j : tie.After-join) → let x = j .before .before .before .before .before .before .before .before .before .before .before .before .args in
+abbrev start : tie.After-join → tie.Start
+start j = j .before .before .before .before .before .before .before .before .before .before .before .before
+
+made : (j : tie.After-join) → let x = start j .args in
     j .join .result
     ≡ join (termAt (x .ap .now) (x .an .now) (x .pair .low)) (termAt (x .bp .now) (x .bn .now) (x .pair .high))
 made j = j .join .ensures ∙ ap₂ join (j .before .before .term-at .ensures) (j .before .term-at2 .ensures)
@@ -39,7 +42,7 @@ add-least-requires : tie.Need-add-least-requires
 add-least-requires c κs =
     let j = c .before .before .before in
     let e = j .before .before .before in
-    let s = e .before .before .before .before .before .before .before .before .before in
+    let s = start j in
     let x = s .args in
     let h = s .pre .0 .at in (
       recounted (s .pre .0) (x .tried .cost),
@@ -61,7 +64,7 @@ returns-2 : tie.Need-returns-2
 returns-2 c =
     let k = c .before .before .before .before .before .before in
     let j = k .before .before .before .before in
-    let s = j .before .before .before .before .before .before .before .before .before .before .before .before in
+    let s = start j in
     let x = s .args in
     let least : List Term = leastJoins (termsOf (x .ap .now) (x .an .now)) (termsOf (x .bp .now) (x .bn .now)) in
     grown-so least least (λ l. Covered least l (j .join .result)) _ _ _ _ _ (k .add-least .result)

@@ -2,7 +2,9 @@ pub mod BottomUp
 pub mod Tables
 pub mod Accepted
 pub mod Nodes
+pub mod Signed
 pub mod Satisfiable
+pub mod Conjoined
 pub mod Largest
 pub mod Rows
 pub mod Unread

@@ -1,4 +1,4 @@
--- The lists that Propositions 3 and 5 build are prime implicants in order.
+-- The lists that are made of each kind of node are prime implicants in order, of its function or of its negation.
 use Prim.Native.Nat.{ℕ, _<_}
 use mathlib.Core.Path.{_≡_, refl, sym, ap, subst, _∙_, fun-ext}
 use mathlib.Core.Bool.{Bool, true, false, not, cond, and-true}
@@ -8,23 +8,23 @@ use lib.Dec.{T, T-not}
 use Rattle.masks.specs.Mask.{bit, put}
 use Rattle.masks.proofs.Masks.{put-same, put-lt}
 use Rattle.masks.proofs.Tests.{decide, along}
-use Rattle.table.specs.Node.{nodeAt, decision}
-use Rattle.terms.specs.Joins.{joins, decisionTerms}
+use Rattle.table.specs.Node.{nodeAt, constant, literal, decision, conjunction}
+use Rattle.terms.specs.Joins.{decisionTerms}
 use Rattle.terms.specs.Lists.{sort}
 use Rattle.terms.specs.Order.{before}
 use Rattle.terms.specs.Prime.{primes, Implicant, Prime, Lists}
 use Rattle.terms.specs.Term.{empty, has, without, extend, IsTerm}
 use Rattle.terms.specs.declared.Term.{Term}
-use Rattle.terms.proofs.Built.{joins-lists, decision-lists}
+use Rattle.terms.proofs.Built.{decision-lists}
 use Rattle.terms.proofs.Decisions.{choice}
 use Rattle.terms.proofs.Implicants.{least-same}
 use Rattle.terms.proofs.Listed.{primes-lists, sort-primes}
 use Rattle.terms.proofs.Terms.{Inside, extend-there, extend-only, empty-has, by-variable, without-inside, agrees-inside, put-agrees}
 use Rattle.terms.proofs.Terms.{own-agrees}
-use Rattle.circuits.specs.Check.{allDisjoint}
-use Rattle.circuits.specs.Function.{signed, function, support}
+use Rattle.circuits.specs.Function.{signed, function, signedFunction}
 use Rattle.circuits.proofs.Accepted.{variables-wide, Accepted}
-use Rattle.circuits.proofs.Nodes.{sides, allOf, decision-free, all-apart, true-prime, signed-not, literal-prime}
+use Rattle.circuits.proofs.Nodes.{node-fits, true-prime, signed-not, literal-prime}
+use Rattle.circuits.proofs.Signed.{signedSides, signedAll, signed-signed, signed-is, side-free}
 
 -- ---- the leaves
 module _ (N : ℕ) where
@@ -85,33 +85,39 @@ module _ (N : ℕ) where
   sort-one t = refl
 
   -- the terms of the leaves are their prime implicants
-  pub constant-rows : (b : Bool) → cond b (empty ∷ []) [] ≡ primes N (λ s. b)
-  constant-rows b = sym (sort-constant b) ∙ sort-primes N (λ s. b) (cond b (empty ∷ []) []) (constant-lists b)
+  constant-primes : (b : Bool) → cond b (empty ∷ []) [] ≡ primes N (λ s. b)
+  constant-primes b = sym (sort-constant b) ∙ sort-primes N (λ s. b) (cond b (empty ∷ []) []) (constant-lists b)
 
-  pub literal-rows : (b : Bool) (x : ℕ) → x < N → extend empty x b ∷ [] ≡ primes N (λ s. signed b (bit s x))
-  literal-rows b x l =
+  literal-primes : (b : Bool) (x : ℕ) → x < N → extend empty x b ∷ [] ≡ primes N (λ s. signed b (bit s x))
+  literal-primes b x l =
       sym (sort-one (extend empty x b)) ∙ sort-primes N (λ s. signed b (bit s x)) (extend empty x b ∷ []) (literal-lists b x l)
 
-module _ {N n : ℕ} {w : List ℕ} (acc : Accepted N n w) where
+-- ---- the nodes of an accepted table: the terms that are made are the prime implicants of the node's function, or of its negation
+module _ {N n : ℕ} {w : List ℕ} (acc : Accepted N n w) (c : Bool) where
   abbrev rows : ℕ → List Term
-  rows c = primes N (function w c)
+  rows i = primes N (signedFunction c w i)
 
-  -- those of a decision, from its sides' (Proposition 5)
-  pub decision-rows : (i x a b : ℕ) → i < n → nodeAt w i ≡ decision x a b → x < N
-      → sort before (decisionTerms x (rows a) (rows b)) ≡ primes N (choice (sides w a b) x)
-  decision-rows i x a b l e below =
-      sort-primes N (choice (sides w a b) x) (decisionTerms x (rows a) (rows b))
-      (decision-lists N (variables-wide acc) (sides w a b) x below (decision-free acc i x a b l e) (rows a) (rows b)
-      (primes-lists N (function w a)) (primes-lists N (function w b)))
+  -- a constant, a literal
+  pub constant-rows : (i : ℕ) (b : Bool) → i < n → nodeAt w i ≡ constant b → cond (signed c b) (empty ∷ []) [] ≡ rows i
+  constant-rows i b l e = constant-primes N (signed c b) ∙ ap (primes N) (sym (signed-is acc c i (constant b) l e))
 
-  -- those of a conjunction with no variable in common, from one child's and those of the rest (Proposition 3)
-  pub joined-rows : (c : ℕ) (cs : List ℕ) → T (allDisjoint (support w) (c ∷ cs)) → ((d : ℕ) → List·Memᴰ d (c ∷ cs) → d < n)
-      → sort before (joins (rows c) (primes N (allOf w cs))) ≡ primes N (allOf w (c ∷ cs))
-  joined-rows c cs d below =
-      sort-primes N (allOf w (c ∷ cs)) (joins (rows c) (primes N (allOf w cs)))
-      (joins-lists N (variables-wide acc) (function w c) (allOf w cs) (rows c) (primes N (allOf w cs))
-      (primes-lists N (function w c)) (primes-lists N (allOf w cs)) (all-apart acc c cs d below))
+  pub literal-rows : (i : ℕ) (b : Bool) (x : ℕ) → i < n → nodeAt w i ≡ literal b x → extend empty x (signed c b) ∷ [] ≡ rows i
+  literal-rows i b x l e =
+      literal-primes N (signed c b) x (node-fits acc i (literal b x) l e)
+      ∙ ap (primes N) (fun-ext (λ s. signed-signed c b (bit s x)) ∙ sym (signed-is acc c i (literal b x) l e))
 
-  -- one child alone
-  pub alone-rows : (c : ℕ) → rows c ≡ primes N (allOf w (c ∷ []))
-  alone-rows c = ap (primes N) (fun-ext (λ s. sym (and-true (function w c s))))
+  -- a decision, from its sides' (Proposition 5)
+  pub decision-rows : (i x a b : ℕ) → i < n → nodeAt w i ≡ decision x a b → sort before (decisionTerms x (rows a) (rows b)) ≡ rows i
+  decision-rows i x a b l e =
+      let F : Bool → ℕ → Bool = signedSides c w a b in
+      sort-primes N (choice F x) (decisionTerms x (rows a) (rows b))
+      (decision-lists N (variables-wide acc) F x (node-fits acc i (decision x a b) l e .0) (side-free acc c i x a b l e) (rows a) (rows b)
+      (primes-lists N (F false)) (primes-lists N (F true)))
+      ∙ ap (primes N) (sym (signed-is acc c i (decision x a b) l e))
+
+  -- a conjunction of one child, and of several
+  pub alone-rows : (d : ℕ) → rows d ≡ primes N (signedAll c w (d ∷ []))
+  alone-rows d = ap (primes N) (fun-ext (λ s. ap (signed c) (sym (and-true (function w d s)))))
+
+  pub conjunction-rows : (i : ℕ) (ds : List ℕ) → i < n → nodeAt w i ≡ conjunction ds → primes N (signedAll c w ds) ≡ rows i
+  conjunction-rows i ds l e = ap (primes N) (sym (signed-is acc c i (conjunction ds) l e))

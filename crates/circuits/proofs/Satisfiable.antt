@@ -13,15 +13,16 @@ use Rattle.terms.specs.Prime.{Prime}
 use Rattle.terms.specs.Term.{empty, extend, join}
 use Rattle.terms.specs.declared.Term.{Term}
 use Rattle.terms.proofs.Conjunctions.{apart-prime}
-use Rattle.terms.proofs.Embeddings.{side-embeds, Embeds}
+use Rattle.terms.proofs.Embeddings.{Embeds}
 use Rattle.terms.proofs.Sorted.{any-i}
 use Rattle.terms.proofs.Terms.{own-agrees}
 use Rattle.circuits.specs.Check.{allDisjoint, isFalse, nodeUnreduced, unreduced}
 use Rattle.circuits.specs.Function.{function, support}
 use Rattle.circuits.proofs.Accepted.{Accepted}
 use Rattle.circuits.proofs.BottomUp.{branch-mem}
-use Rattle.circuits.proofs.Nodes.{sides, allOf, node-fits, function-is, decision-free, conjunction-below, conjunction-disjoint}
-use Rattle.circuits.proofs.Nodes.{all-apart, rest-disjoint, true-prime, literal-prime}
+use Rattle.circuits.proofs.Nodes.{sides, allOf, function-is, conjunction-below, conjunction-disjoint, all-apart, rest-disjoint}
+use Rattle.circuits.proofs.Nodes.{true-prime, literal-prime}
+use Rattle.circuits.proofs.Signed.{side-up}
 use Rattle.circuits.proofs.Tables.{fits, node-induction}
 
 module _ {N n : ℕ} {w : List ℕ} (acc : Accepted N n w) where
@@ -57,11 +58,6 @@ module _ {N n : ℕ} {w : List ℕ} (acc : Accepted N n w) where
       (not-and (isFalse (nodeAt w a)) (isFalse (nodeAt w b))
       (subst (λ (y : Node). T (not (nodeUnreduced (λ c. isFalse (nodeAt w c)) y))) e (acc .reduced i l)))
 
-  pub side-up : (i x a b : ℕ) → i < n → nodeAt w i ≡ decision x a b → (c : Bool) → Embeds N (sides w a b c) (function w i)
-  side-up i x a b l e c =
-      subst (Embeds N (sides w a b c)) (sym (function-is acc i (decision x a b) l e))
-      (side-embeds N (sides w a b) x (node-fits acc i (decision x a b) l e .0) (decision-free acc i x a b l e) c)
-
   has-at : (i : ℕ) → i < n → (y : Node) → nodeAt w i ≡ y → Fits N i y
       → ((c : ℕ) → List·Memᴰ c (children y) → Live c → HasPrime (function w c)) → T (not (isFalse y)) → HasPrime (function w i)
   has-at i l (constant true) e f below h =
@@ -72,7 +68,8 @@ module _ {N n : ℕ} {w : List ℕ} (acc : Accepted N n w) where
   has-at i l (decision x a b) e f below h =
       let (c, live) = decision-live i x a b l e in
       let (t, pt) = below (cond c b a) (branch-mem a b c) live in
-      (side-up i x a b l e c .to t, side-up i x a b l e c .keeps t pt)
+      let up : Embeds N (sides w a b c) (function w i) = side-up acc true i x a b l e c in
+      (up .to t, up .keeps t pt)
   has-at i l (conjunction cs) e f below h =
       subst HasPrime (sym (function-is acc i (conjunction cs) l e))
       (all-has cs (conjunction-disjoint acc i cs l e) (conjunction-below acc i cs l e)
@@ -84,8 +81,7 @@ module _ {N n : ℕ} {w : List ℕ} (acc : Accepted N n w) where
       node-induction N n w (acc .well) (λ i. Live i → HasPrime (function w i))
       (λ i l below. has-at i l (nodeAt w i) refl (fits N n w (acc .well) i l) below)
 
-  -- some assignment satisfies each node that is not `false`
-  pub satisfiable : (i : ℕ) → i < n → Live i → (s : ℕ) × (s < 2 ^ N) × T (function w i s)
-  satisfiable i l h =
-      let (t, pt) = has-prime i l h in
+  -- some assignment satisfies a function with a prime implicant
+  pub satisfied : (f : ℕ → Bool) → HasPrime f → (s : ℕ) × (s < 2 ^ N) × T (f s)
+  satisfied f (t, pt) =
       (t .positive, pt .isTerm .fits true, pt .holds (t .positive) (pt .isTerm .fits true) (own-agrees N t (pt .isTerm)))

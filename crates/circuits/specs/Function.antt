@@ -36,6 +36,10 @@ nodeValue s unknown v = false
 unfoldable pub function : List ℕ → ℕ → ℕ → Bool
 function w i s = ofNode false (nodeValue s) w i
 
+-- the function of node i, or its negation where the sign is false: what is listed of each node
+abbrev pub signedFunction : Bool → List ℕ → ℕ → ℕ → Bool
+signedFunction c w i s = signed c (function w i s)
+
 -- the variables of all masks
 abbrev pub union : (ℕ → ℕ) → List ℕ → ℕ
 union v [] = 0

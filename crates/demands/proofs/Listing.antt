@@ -14,6 +14,7 @@ use Rattle.table.specs.Node.{maxNodes}
 use Rattle.table.specs.Outcome.{accepted, Outcome, answered, refused}
 use Rattle.text.proofs.Readers.{value-not, same-number}
 use Rattle.circuits.specs.Check.{check}
+use Rattle.circuits.specs.Function.{signedFunction}
 use Rattle.circuits.proofs.Accepted.{accepted-e}
 use Rattle.circuits.proofs.Largest.{no-more}
 use Rattle.lists.specs.Capacity.{maxCapacity}
@@ -23,13 +24,16 @@ use Rattle.listing.proofs.Table.{Fit, length-listed, length-counts}
 use Rattle.demands.specs.Demands.{At, Refusals, Answers, tableRefusals}
 use Rattle.demands.proofs.Answers.{among-left, answers-right, check-answers, table-number}
 
-module _ (N n : ℕ) (w : List ℕ) (R : ℕ) (b : Lent) where
+module _ (c : Bool) (N n : ℕ) (w : List ℕ) (R : ℕ) (b : Lent) where
+  abbrev F : ℕ → ℕ → Bool
+  F = signedFunction c w
+
   abbrev listRefusals : Refusals
   listRefusals = (41, At 0) ∷ (42, At 0) ∷ []
 
   -- the cases of an accepted table
   abbrev byRoom : Bool → Bool → ListOut
-  byRoom x c = cond x (cond c (cleared n R b) (filled N n w R b)) (untouched 41 0 b)
+  byRoom x y = cond x (cond y (cleared n R b) (filled N n F R b)) (untouched 41 0 b)
 
   abbrev Kept : ListOut → Type 0
   Kept o = o .after ≡ b
@@ -43,66 +47,66 @@ module _ (N n : ℕ) (w : List ℕ) (R : ℕ) (b : Lent) where
       × (drop (n * R) (o .after .negatives) ≡ drop (n * R) (b .negatives))
       × (drop n (o .after .counts) ≡ drop n (b .counts))
 
-  room-answers : (x c : Bool) → Answers listRefusals (byRoom x c .answer)
+  room-answers : (x y : Bool) → Answers listRefusals (byRoom x y .answer)
   room-answers true true = inr (inl (refl, refl))
   room-answers true false = tt
-  room-answers false c = inl (refl, refl)
+  room-answers false y = inl (refl, refl)
 
-  room-kept : (x c : Bool) (k p : ℕ) → byRoom x c .answer ≡ refused k p → k ≢ 42 → Kept (byRoom x c)
+  room-kept : (x y : Bool) (k p : ℕ) → byRoom x y .answer ≡ refused k p → k ≢ 42 → Kept (byRoom x y)
   room-kept true true k p h other = absurd (other (sym (same-number 42 0 k p h .0)))
   room-kept true false k p h other = absurd (value-not tt k p h)
-  room-kept false c k p h other = refl
+  room-kept false y k p h other = refl
 
-  room-lack : (x c : Bool) (p : ℕ) → byRoom x c .answer ≡ refused 42 p → Zeroed (byRoom x c)
+  room-lack : (x y : Bool) (p : ℕ) → byRoom x y .answer ≡ refused 42 p → Zeroed (byRoom x y)
   room-lack true true p h = refl
   room-lack true false p h = absurd (value-not tt 42 p h)
-  room-lack false c p h = let e : _≡_ {A = ℕ} 41 42 = same-number 41 0 42 p h .0 in absurd (omega arith)
+  room-lack false y p h = let e : _≡_ {A = ℕ} 41 42 = same-number 41 0 42 p h .0 in absurd (omega arith)
 
   -- the listed parts fill the first n × R entries
-  filled-past : check N n w ≡ accepted → exceeds N n w R ≡ false → KeptPast (filled N n w R b)
+  filled-past : check N n w ≡ accepted → exceeds N n F R ≡ false → KeptPast (filled N n F R b)
   unfolding exceeds
   filled-past acc e =
-      let last : length (nodePrimes N w (pred n)) ≤ R =
-      nltb→le R (length (nodePrimes N w (pred n))) (along (ap not (sym e)) tt) in
-      let fit : Fit N w R n = λ i l. le-trans (no-more (accepted-e N n w acc) i l) last in (
-        drop-at (listedMasks N n w R true) (drop (n * R) (b .positives)) (n * R) (length-listed N w R n true fit),
-        drop-at (listedMasks N n w R false) (drop (n * R) (b .negatives)) (n * R) (length-listed N w R n false fit),
-        drop-at (listedCounts N n w) (drop n (b .counts)) n (length-counts N w R n),
+      let last : length (nodePrimes N F (pred n)) ≤ R =
+      nltb→le R (length (nodePrimes N F (pred n))) (along (ap not (sym e)) tt) in
+      let fit : Fit N F R n = λ i l. le-trans (no-more (accepted-e N n w acc) c i l) last in (
+        drop-at (listedMasks N n F R true) (drop (n * R) (b .positives)) (n * R) (length-listed N F R n true fit),
+        drop-at (listedMasks N n F R false) (drop (n * R) (b .negatives)) (n * R) (length-listed N F R n false fit),
+        drop-at (listedCounts N n F) (drop n (b .counts)) n (length-counts N F R n),
       )
 
-  room-past : check N n w ≡ accepted → (x c : Bool) → exceeds N n w R ≡ c → byRoom x c .answer ≡ answered tt → KeptPast (byRoom x c)
+  room-past : check N n w ≡ accepted → (x y : Bool) → exceeds N n F R ≡ y → byRoom x y .answer ≡ answered tt → KeptPast (byRoom x y)
   room-past acc true true e h = absurd (value-not tt 42 0 (sym h))
   room-past acc true false e h = filled-past acc e
-  room-past acc false c e h = absurd (value-not tt 41 0 (sym h))
+  room-past acc false y e h = absurd (value-not tt 41 0 (sym h))
 
   -- ---- by the answer of the check
   abbrev byCheck : Outcome (Unit {0}) → ListOut
-  byCheck c = listChecked N n w R b c
+  byCheck o = listChecked N n F R b o
 
-  checked-answers : (c : Outcome (Unit {0})) → Answers (tableRefusals n) c → Answers (tableRefusals n ++ listRefusals) (byCheck c .answer)
+  checked-answers : (o : Outcome (Unit {0})) → Answers (tableRefusals n) o → Answers (tableRefusals n ++ listRefusals) (byCheck o .answer)
   checked-answers (answered u) h =
-      answers-right (tableRefusals n) listRefusals (byRoom (suffices n R b) (exceeds N n w R) .answer)
-      (room-answers (suffices n R b) (exceeds N n w R))
+      answers-right (tableRefusals n) listRefusals (byRoom (suffices n R b) (exceeds N n F R) .answer)
+      (room-answers (suffices n R b) (exceeds N n F R))
   checked-answers (refused k i) h = among-left (tableRefusals n) listRefusals k i h
 
-  checked-kept : (c : Outcome (Unit {0})) (k p : ℕ) → byCheck c .answer ≡ refused k p → k ≢ 42 → Kept (byCheck c)
-  checked-kept (answered u) k p h other = room-kept (suffices n R b) (exceeds N n w R) k p h other
+  checked-kept : (o : Outcome (Unit {0})) (k p : ℕ) → byCheck o .answer ≡ refused k p → k ≢ 42 → Kept (byCheck o)
+  checked-kept (answered u) k p h other = room-kept (suffices n R b) (exceeds N n F R) k p h other
   checked-kept (refused e i) k p h other = refl
 
-  checked-lack : (c : Outcome (Unit {0})) (p : ℕ) → Answers (tableRefusals n) c → byCheck c .answer ≡ refused 42 p → Zeroed (byCheck c)
-  checked-lack (answered u) p a h = room-lack (suffices n R b) (exceeds N n w R) p h
+  checked-lack : (o : Outcome (Unit {0})) (p : ℕ) → Answers (tableRefusals n) o → byCheck o .answer ≡ refused 42 p → Zeroed (byCheck o)
+  checked-lack (answered u) p a h = room-lack (suffices n R b) (exceeds N n F R) p h
   checked-lack (refused k i) p a h =
       let l : (21 ≤ k) × (k ≤ 25) = table-number n k i a in
       let e : k ≡ 42 = same-number k i 42 p h .0 in
       absurd (omega arith)
 
-  checked-past : (c : Outcome (Unit {0})) → check N n w ≡ c → byCheck c .answer ≡ answered tt → KeptPast (byCheck c)
-  checked-past (answered u) acc h = room-past acc (suffices n R b) (exceeds N n w R) refl h
+  checked-past : (o : Outcome (Unit {0})) → check N n w ≡ o → byCheck o .answer ≡ answered tt → KeptPast (byCheck o)
+  checked-past (answered u) acc h = room-past acc (suffices n R b) (exceeds N n F R) refl h
   checked-past (refused k i) acc h = absurd (value-not tt k i (sym h))
 
   -- ---- the listing
   abbrev out : ListOut
-  out = listTable N n w R b
+  out = listTable c N n w R b
 
   pub list-answers : Answers (tableRefusals n ++ listRefusals) (out .answer)
   unfolding listTable

@@ -21,6 +21,7 @@ use Rattle.terms.specs.Prime.{implicant, prime, primes, reduce}
 use Rattle.terms.specs.Term.{isTerm, mask}
 use Rattle.terms.specs.declared.Term.{Term}
 use Rattle.circuits.specs.Check.{check}
+use Rattle.circuits.specs.Function.{signed, signedFunction}
 use Rattle.circuits.proofs.Accepted.{accepted-e}
 use Rattle.circuits.proofs.Unread.{fault-same, node-same, function-same, malformed-same, range-same, check-same, withRest, rest-long}
 use Rattle.circuits.proofs.Unread.{rest-same, SameNodes}
@@ -99,46 +100,53 @@ module _ (N n : ℕ) (w v : List ℕ) (long : wordsFor n ≤ length w) where
       (λ f. cond (f s) (answered (reduce N f (assignmentTerm s N) N)) (refused 33 0))
 
   -- ---- the listing
-  primes-unread : (i : ℕ) → i < n → nodePrimes N w′ i ≡ nodePrimes N w i
-  primes-unread i l = ap (primes N) (function-same n w w′ same i l)
+  module _ (c : Bool) where
+    abbrev F : ℕ → ℕ → Bool
+    F = signedFunction c w
 
-  exceeds-unread : (R : ℕ) → check N n w ≡ accepted → exceeds N n w′ R ≡ exceeds N n w R
-  unfolding exceeds
-  exceeds-unread R acc = ap (λ (ts : List Term). ltb R (length ts)) (primes-unread (pred n) (node-there acc))
+    abbrev F′ : ℕ → ℕ → Bool
+    F′ = signedFunction c w′
 
-  masks-unread : (R : ℕ) (b : Bool) → listedMasks N n w′ R b ≡ listedMasks N n w R b
-  unfolding listedMasks
-  masks-unread R b =
-      flatMap-local (λ i. padded R (map (λ t. mask t b) (nodePrimes N w′ i))) (λ i. padded R (map (λ t. mask t b) (nodePrimes N w i)))
-      (below n)
-      (λ i m. ap (λ (ts : List Term). padded R (map (λ t. mask t b) ts)) (primes-unread i (below-out n i m)))
+    primes-unread : (i : ℕ) → i < n → nodePrimes N F′ i ≡ nodePrimes N F i
+    primes-unread i l = ap (λ (f : ℕ → Bool). primes N (λ s. signed c (f s))) (function-same n w w′ same i l)
 
-  counts-unread : listedCounts N n w′ ≡ listedCounts N n w
-  unfolding listedCounts
-  counts-unread =
-      map-local (λ i. length (nodePrimes N w′ i)) (λ i. length (nodePrimes N w i)) (below n)
-      (λ i m. ap (λ (ts : List Term). length ts) (primes-unread i (below-out n i m)))
+    exceeds-unread : (R : ℕ) → check N n w ≡ accepted → exceeds N n F′ R ≡ exceeds N n F R
+    unfolding exceeds
+    exceeds-unread R acc = ap (λ (ts : List Term). ltb R (length ts)) (primes-unread (pred n) (node-there acc))
 
-  module _ (R : ℕ) (b : Lent) where
-    filled-unread : filled N n w′ R b ≡ filled N n w R b
-    filled-unread = λ j.
-        record {
-          answer = answered tt;
-          after =
-              lent (masks-unread R true j ++ drop (n * R) (b .positives)) (masks-unread R false j ++ drop (n * R) (b .negatives))
-              (counts-unread j ++ drop n (b .counts));
-        }
+    masks-unread : (R : ℕ) (b : Bool) → listedMasks N n F′ R b ≡ listedMasks N n F R b
+    unfolding listedMasks
+    masks-unread R b =
+        flatMap-local (λ i. padded R (map (λ t. mask t b) (nodePrimes N F′ i))) (λ i. padded R (map (λ t. mask t b) (nodePrimes N F i)))
+        (below n)
+        (λ i m. ap (λ (ts : List Term). padded R (map (λ t. mask t b) ts)) (primes-unread i (below-out n i m)))
 
-    list-unread : listTable N n w′ R b ≡ listTable N n w R b
-    unfolding listTable
-    list-unread = ap (listChecked N n w′ R b) check-unread ∙ by (check N n w) refl
-      where
-        by : (c : Outcome (Unit {0})) → check N n w ≡ c → listChecked N n w′ R b c ≡ listChecked N n w R b c
-        by (answered u) acc =
-            ap₂ (λ (x : Bool) (o : ListOut).
-            cond (suffices n R b) (cond x (cleared n R b) o) (untouched 41 0 b))
-            (exceeds-unread R acc) filled-unread
-        by (refused k i) e = refl
+    counts-unread : listedCounts N n F′ ≡ listedCounts N n F
+    unfolding listedCounts
+    counts-unread =
+        map-local (λ i. length (nodePrimes N F′ i)) (λ i. length (nodePrimes N F i)) (below n)
+        (λ i m. ap (λ (ts : List Term). length ts) (primes-unread i (below-out n i m)))
+
+    module _ (R : ℕ) (b : Lent) where
+      filled-unread : filled N n F′ R b ≡ filled N n F R b
+      filled-unread = λ j.
+          record {
+            answer = answered tt;
+            after =
+                lent (masks-unread R true j ++ drop (n * R) (b .positives)) (masks-unread R false j ++ drop (n * R) (b .negatives))
+                (counts-unread j ++ drop n (b .counts));
+          }
+
+      list-unread : listTable c N n w′ R b ≡ listTable c N n w R b
+      unfolding listTable
+      list-unread = ap (listChecked N n F′ R b) check-unread ∙ by (check N n w) refl
+        where
+          by : (o : Outcome (Unit {0})) → check N n w ≡ o → listChecked N n F′ R b o ≡ listChecked N n F R b o
+          by (answered u) acc =
+              ap₂ (λ (x : Bool) (l : ListOut).
+              cond (suffices n R b) (cond x (cleared n R b) l) (untouched 41 0 b))
+              (exceeds-unread R acc) filled-unread
+          by (refused k i) e = refl
 
   -- ---- the writing
   text-unread : tableText N n w′ ≡ tableText N n w

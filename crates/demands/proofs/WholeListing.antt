@@ -15,7 +15,7 @@ use Rattle.terms.specs.Lists.{Rising}
 use Rattle.terms.specs.Order.{before}
 use Rattle.terms.specs.Term.{termsOf}
 use Rattle.terms.proofs.Listed.{primes-lists, primes-rising}
-use Rattle.circuits.specs.Function.{function}
+use Rattle.circuits.specs.Function.{signedFunction}
 use Rattle.circuits.proofs.Accepted.{accepted-e, Accepted}
 use Rattle.circuits.proofs.Largest.{no-more}
 use Rattle.lists.specs.Capacity.{maxCapacity}
@@ -26,12 +26,15 @@ use Rattle.listing.proofs.Answers.{out-is}
 use Rattle.listing.proofs.Table.{Fit, masks-back, unused-back, count-back}
 use Rattle.demands.specs.Demands.{Asked, entriesAt, NodeListed, Listed, WholeListing}
 
-module _ (N n : ℕ) (w : List ℕ) (R : ℕ) (lend : Lent) (asked : Asked N n w R lend) where
+module _ (c : Bool) (N n : ℕ) (w : List ℕ) (R : ℕ) (lend : Lent) (asked : Asked N n w R lend) where
+  abbrev F : ℕ → ℕ → Bool
+  F = signedFunction c w
+
   last : ℕ
-  last = length (nodePrimes N w (pred n))
+  last = length (nodePrimes N F (pred n))
 
   result : ListOut
-  result = listTable N n w R lend
+  result = listTable c N n w R lend
 
   accepts : Accepted N n w
   accepts = accepted-e N n w (asked .table)
@@ -48,25 +51,25 @@ module _ (N n : ℕ) (w : List ℕ) (R : ℕ) (lend : Lent) (asked : Asked N n w
       (le→leb n (length (lend .counts)) (asked .counts))
 
   -- the answer and the buffers, by whether the last node's terms fit
-  out : (b : Bool) → exceeds N n w R ≡ b → result ≡ cond b (cleared n R lend) (filled N n w R lend)
+  out : (b : Bool) → exceeds N n F R ≡ b → result ≡ cond b (cleared n R lend) (filled N n F R lend)
   unfolding result
-  out b e = out-is N n w R lend (asked .table) true b (is-true (suffices n R lend) enough) e
+  out b e = out-is c N n w R lend (asked .table) true b (is-true (suffices n R lend) enough) e
 
   lacking : R < last → result .answer ≡ refused 42 0
   unfolding exceeds last
   lacking h = ap (λ (z : ListOut). z .answer) (out true (lt-ltb R last h))
 
-  lack-by : (b : Bool) → exceeds N n w R ≡ b → result .answer ≡ refused 42 0 → R < last
+  lack-by : (b : Bool) → exceeds N n F R ≡ b → result .answer ≡ refused 42 0 → R < last
   unfolding exceeds last
   lack-by true e h = ltb→lt R last (along (sym e) tt)
   lack-by false e h = absurd (value-not tt 42 0 (sym (ap (λ (z : ListOut). z .answer) (out false e)) ∙ h))
 
   module _ (h : last ≤ R) where
-    fit : Fit N w R n
+    fit : Fit N F R n
     unfolding last
-    fit i l = le-trans (no-more accepts i l) h
+    fit i l = le-trans (no-more accepts c i l) h
 
-    is-filled : result ≡ filled N n w R lend
+    is-filled : result ≡ filled N n F R lend
     unfolding exceeds last
     is-filled = out false (le-ltb R last h)
 
@@ -77,48 +80,48 @@ module _ (N n : ℕ) (w : List ℕ) (R : ℕ) (lend : Lent) (asked : Asked N n w
     rows : Bool → List ℕ
     rows = bySign (result .after .positives) (result .after .negatives)
 
-    buffers : (b : Bool) → rows b ≡ listedMasks N n w R b ++ drop (n * R) (bySign (lend .positives) (lend .negatives) b)
+    buffers : (b : Bool) → rows b ≡ listedMasks N n F R b ++ drop (n * R) (bySign (lend .positives) (lend .negatives) b)
     unfolding rows
     buffers true = ap (λ (z : ListOut). z .after .positives) is-filled
     buffers false = ap (λ (z : ListOut). z .after .negatives) is-filled
 
-    counted : (i : ℕ) → i < n → getD (result .after .counts) i 0 ≡ length (nodePrimes N w i)
-    counted i l = ap (λ (z : ListOut). getD (z .after .counts) i 0) is-filled ∙ count-back N w R n i (drop n (lend .counts)) l
+    counted : (i : ℕ) → i < n → getD (result .after .counts) i 0 ≡ length (nodePrimes N F i)
+    counted i l = ap (λ (z : ListOut). getD (z .after .counts) i 0) is-filled ∙ count-back N F R n i (drop n (lend .counts)) l
 
     module _ (i : ℕ) (l : i < n) where
-      back : (b : Bool) → take (getD (result .after .counts) i 0) (drop (i * R) (rows b)) ≡ masksOf b (nodePrimes N w i)
+      back : (b : Bool) → take (getD (result .after .counts) i 0) (drop (i * R) (rows b)) ≡ masksOf b (nodePrimes N F i)
       back b =
           ap₂ (λ (m : ℕ) (z : List ℕ). take m (drop (i * R) z)) (counted i l) (buffers b)
-          ∙ masks-back N w R n i b (drop (n * R) (bySign (lend .positives) (lend .negatives) b)) fit l
+          ∙ masks-back N F R n i b (drop (n * R) (bySign (lend .positives) (lend .negatives) b)) fit l
 
       -- the entries are the prime implicants in order
-      exact : entriesAt R (result .after) i ≡ nodePrimes N w i
+      exact : entriesAt R (result .after) i ≡ nodePrimes N F i
       unfolding rows
-      exact = ap₂ termsOf (back true) (back false) ∙ terms-masks (nodePrimes N w i)
+      exact = ap₂ termsOf (back true) (back false) ∙ terms-masks (nodePrimes N F i)
 
       zero-past : (j : ℕ) → getD (result .after .counts) i 0 ≤ j → j < R → (b : Bool) → getD (rows b) (i * R + j) 0 ≡ 0
       zero-past j lo hi b =
           ap (λ (z : List ℕ). getD z (i * R + j) 0) (buffers b)
-          ∙ unused-back N w R n i b (drop (n * R) (bySign (lend .positives) (lend .negatives) b)) fit l j (le-trans (le-of-eq (sym (counted i l))) lo) hi
+          ∙ unused-back N F R n i b (drop (n * R) (bySign (lend .positives) (lend .negatives) b)) fit l j (le-trans (le-of-eq (sym (counted i l))) lo) hi
 
-      node : NodeListed N n w R (result .after) i
+      node : NodeListed N n F R (result .after) i
       unfolding rows
       node =
           record {
             number = counted i l;
             entries = ap length exact ∙ sym (counted i l);
             most = le-trans (le-of-eq (counted i l))
-                (le-trans (no-more accepts i l) (le-of-eq (sym (counted (pred n) (omega arith)))));
-            only = λ t m. primes-lists N (function w i) .only t (subst (List·Memᴰ t) exact m);
-            every = λ t p. subst (List·Memᴰ t) (sym exact) (primes-lists N (function w i) .every t p);
-            order = subst (Rising before) (sym exact) (primes-rising N (function w i));
+                (le-trans (no-more accepts c i l) (le-of-eq (sym (counted (pred n) (omega arith)))));
+            only = λ t m. primes-lists N (F i) .only t (subst (List·Memᴰ t) exact m);
+            every = λ t p. subst (List·Memᴰ t) (sym exact) (primes-lists N (F i) .every t p);
+            order = subst (Rising before) (sym exact) (primes-rising N (F i));
             unused = λ j lo hi. (zero-past j lo hi true, zero-past j lo hi false);
           }
 
-  listed : Listed N n w R result
+  listed : Listed N n F R result
   unfolding last
-  listed = record { lack = lack-by (exceeds N n w R) refl; lacking = lacking; done = done; nodes = node }
+  listed = record { lack = lack-by (exceeds N n F R) refl; lacking = lacking; done = done; nodes = node }
 
 pub whole-listing : WholeListing
 unfolding result
-whole-listing = record { listings = listed }
+whole-listing = record { functions = listed true; negations = listed false }

@@ -1,7 +1,7 @@
 -- The demands on the engine, each as one statement over the definitions that the contracts of the exported functions cite.
 -- N is a number of variables, n of nodes, w a table's words; a place is a number of bytes, a node or a needed length.
 use Prim.Native.Nat.{ℕ, pred, _+_, _-_, _*_, _^_, _<_, _≤_}
-use mathlib.Core.Bool.{Bool, not}
+use mathlib.Core.Bool.{Bool, true, false, not}
 use mathlib.Core.List.{List·Memᴰ, List, [], _∷_, _++_}
 use lib.Dec.{T}
 use lib.ListN.{getD, length, take, drop, replicate}
@@ -84,7 +84,7 @@ pub record SameAnswers (N n : ℕ) (w w′ : List ℕ) : Type 0 where
   pub implies : (t : Term) → implicantTest N n w′ t ≡ implicantTest N n w t
   pub prime : (t : Term) → primeTest N n w′ t ≡ primeTest N n w t
   pub reduce : (s : ℕ) → reduction N n w′ s ≡ reduction N n w s
-  pub list : (R : ℕ) (b : Lent) → listTable N n w′ R b ≡ listTable N n w R b
+  pub list : (c : Bool) (R : ℕ) (b : Lent) → listTable c N n w′ R b ≡ listTable c N n w R b
 
 -- ---- demand 1: every operation takes any input and does its work or refuses by a number of the scope, at a place that the
 -- scope allows; what a refusal leaves in each lent buffer is fixed
@@ -115,20 +115,20 @@ pub record AnyInput : Type 0 where
   -- the reduction of the assignment s
   pub reduce : (N n : ℕ) (w : List ℕ) (s : ℕ)
       → Answers (tableRefusals n ++ ((31, At 0) ∷ (33, At 0) ∷ [])) (reduction N n w s)
-  -- listing with the capacity R into the buffers b
-  pub list : (N n : ℕ) (w : List ℕ) (R : ℕ) (b : Lent)
-      → Answers (tableRefusals n ++ ((41, At 0) ∷ (42, At 0) ∷ [])) (listTable N n w R b .answer)
+  -- listing with the capacity R into the buffers b: the nodes' functions where c is true, their negations where it is false
+  pub list : (c : Bool) (N n : ℕ) (w : List ℕ) (R : ℕ) (b : Lent)
+      → Answers (tableRefusals n ++ ((41, At 0) ∷ (42, At 0) ∷ [])) (listTable c N n w R b .answer)
   -- a refusal other than 42 leaves every buffer as it was
-  pub list-refused : (N n : ℕ) (w : List ℕ) (R : ℕ) (b : Lent) (k p : ℕ) → listTable N n w R b .answer ≡ refused k p → k ≢ 42
-      → listTable N n w R b .after ≡ b
+  pub list-refused : (c : Bool) (N n : ℕ) (w : List ℕ) (R : ℕ) (b : Lent) (k p : ℕ) → listTable c N n w R b .answer ≡ refused k p → k ≢ 42
+      → listTable c N n w R b .after ≡ b
   -- 42 leaves zeros in the first n × R entries of both row buffers and in the first n counts, and the rest as it was
-  pub list-lack : (N n : ℕ) (w : List ℕ) (R : ℕ) (b : Lent) (p : ℕ) → listTable N n w R b .answer ≡ refused 42 p
-      → listTable N n w R b .after
+  pub list-lack : (c : Bool) (N n : ℕ) (w : List ℕ) (R : ℕ) (b : Lent) (p : ℕ) → listTable c N n w R b .answer ≡ refused 42 p
+      → listTable c N n w R b .after
       ≡ lent (replicate (n * R) 0 ++ drop (n * R) (b .positives)) (replicate (n * R) 0 ++ drop (n * R) (b .negatives))
       (replicate n 0 ++ drop n (b .counts))
   -- a listing that is done leaves the entries past n × R, and the counts past n, as they were
-  pub list-past : (N n : ℕ) (w : List ℕ) (R : ℕ) (b : Lent) → let a : Lent = listTable N n w R b .after in
-      listTable N n w R b .answer ≡ answered tt
+  pub list-past : (c : Bool) (N n : ℕ) (w : List ℕ) (R : ℕ) (b : Lent) → let a : Lent = listTable c N n w R b .after in
+      listTable c N n w R b .answer ≡ answered tt
       → (drop (n * R) (a .positives) ≡ drop (n * R) (b .positives))
       × (drop (n * R) (a .negatives) ≡ drop (n * R) (b .negatives))
       × (drop n (a .counts) ≡ drop n (b .counts))
@@ -188,7 +188,8 @@ pub record OneMeaning : Type 0 where
       ≡ answers (answered (N, n)) (take (wordsFor n) w ++ replicate (m - wordsFor n) 0)
 
 -- ---- demand 3: a listing of an accepted circuit is refused (42) exactly if it has more prime implicants than the capacity; else every
--- node's entries are all its prime implicants, each once, in order, and nothing else; no node has more than the last
+-- node's entries are all its prime implicants, each once, in order, and nothing else; no node has more than the last. F is the function
+-- of each node: what the circuit says, or its negation
 -- what the listing asks: an accepted table, a capacity within the limit, and buffers large enough, whatever they hold
 pub record Asked (N n : ℕ) (w : List ℕ) (R : ℕ) (b : Lent) : Type 0 where
   pub table : check N n w ≡ accepted
@@ -204,27 +205,30 @@ entriesAt R a i =
     termsOf (take c (drop (i * R) (a .positives))) (take c (drop (i * R) (a .negatives)))
 
 -- node i in the buffers a after a listing
-pub record NodeListed (N n : ℕ) (w : List ℕ) (R : ℕ) (a : Lent) (i : ℕ) : Type 0 where
+pub record NodeListed (N n : ℕ) (F : ℕ → ℕ → Bool) (R : ℕ) (a : Lent) (i : ℕ) : Type 0 where
   -- its count is the number of its prime implicants and of its entries, and no count is above the last node's
-  pub number : getD (a .counts) i 0 ≡ length (nodePrimes N w i)
+  pub number : getD (a .counts) i 0 ≡ length (nodePrimes N F i)
   pub entries : length (entriesAt R a i) ≡ getD (a .counts) i 0
   pub most : getD (a .counts) i 0 ≤ getD (a .counts) (pred n) 0
   -- its entries are prime implicants of its function, and all of them, in order and so each once
-  pub only : (t : Term) → List·Memᴰ t (entriesAt R a i) → Prime N (function w i) t
-  pub every : (t : Term) → Prime N (function w i) t → List·Memᴰ t (entriesAt R a i)
+  pub only : (t : Term) → List·Memᴰ t (entriesAt R a i) → Prime N (F i) t
+  pub every : (t : Term) → Prime N (F i) t → List·Memᴰ t (entriesAt R a i)
   pub order : Rising before (entriesAt R a i)
   -- the other entries of its part are 0
   pub unused : (j : ℕ) → getD (a .counts) i 0 ≤ j → j < R
       → (getD (a .positives) (i * R + j) 0 ≡ 0) × (getD (a .negatives) (i * R + j) 0 ≡ 0)
 
 -- such a listing
-pub record Listed (N n : ℕ) (w : List ℕ) (R : ℕ) (o : ListOut) : Type 0 where
+pub record Listed (N n : ℕ) (F : ℕ → ℕ → Bool) (R : ℕ) (o : ListOut) : Type 0 where
   -- 42 exactly if the circuit, its last node, has more prime implicants than R
-  pub lack : o .answer ≡ refused 42 0 → R < length (nodePrimes N w (pred n))
-  pub lacking : R < length (nodePrimes N w (pred n)) → o .answer ≡ refused 42 0
+  pub lack : o .answer ≡ refused 42 0 → R < length (nodePrimes N F (pred n))
+  pub lacking : R < length (nodePrimes N F (pred n)) → o .answer ≡ refused 42 0
   -- otherwise it is done, and every node is listed
-  pub done : length (nodePrimes N w (pred n)) ≤ R → o .answer ≡ answered tt
-  pub nodes : length (nodePrimes N w (pred n)) ≤ R → (i : ℕ) → i < n → NodeListed N n w R (o .after) i
+  pub done : length (nodePrimes N F (pred n)) ≤ R → o .answer ≡ answered tt
+  pub nodes : length (nodePrimes N F (pred n)) ≤ R → (i : ℕ) → i < n → NodeListed N n F R (o .after) i
 
+-- both listings: of the nodes' functions (prime implicants, "clearances"), and of their negations ("blockers")
 pub record WholeListing : Type 0 where
-  pub listings : (N n : ℕ) (w : List ℕ) (R : ℕ) (b : Lent) → Asked N n w R b → Listed N n w R (listTable N n w R b)
+  pub functions : (N n : ℕ) (w : List ℕ) (R : ℕ) (b : Lent) → Asked N n w R b → Listed N n (function w) R (listTable true N n w R b)
+  pub negations : (N n : ℕ) (w : List ℕ) (R : ℕ) (b : Lent) → Asked N n w R b
+      → Listed N n (λ i s. not (function w i s)) R (listTable false N n w R b)

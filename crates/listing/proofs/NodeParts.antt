@@ -13,6 +13,7 @@ use Rattle.table.specs.Node.{maxNodes}
 use Rattle.table.specs.declared.gates.Decoded.{Decoded}
 use Rattle.table.specs.declared.layout.Children.{Children}
 use Rattle.table.proofs.Encoding.{node-children, child-word}
+use Rattle.circuits.specs.Function.{signedFunction}
 use Rattle.circuits.proofs.Accepted.{Accepted}
 use Rattle.lists.specs.Capacity.{maxCapacity}
 use Rattle.nodes.specs.Part.{nodeMade, NodeGiven, childFrom, childSize, childTerms, termsFrom, Laid, IsPart}
@@ -22,8 +23,8 @@ use Rattle.listing.specs.Listing.{nodePrimes}
 use Rattle.listing.proofs.Bounds.{nodes-le}
 use Rattle.listing.proofs.Table.{State, state-length, state-counts, count-le, terms-back}
 
-module _ {N n : ℕ} {w : List ℕ} (acc : Accepted N n w) {R i : ℕ} {s : Bool → List ℕ} {cs : List ℕ} (st : State N w R n i s cs) (lt : i < n)
-    (small : R ≤ maxCapacity) where
+module _ {N n : ℕ} {w : List ℕ} (acc : Accepted N n w) (c : Bool) {R i : ℕ} {s : Bool → List ℕ} {cs : List ℕ}
+    (st : State N (signedFunction c w) R n i s cs) (lt : i < n) (small : R ≤ maxCapacity) where
   -- the part of a node up to i stands in the buffers
   pub part-fits : (a : ℕ) → a ≤ i → (b : Bool) → a * R + R ≤ length (s b)
   part-fits a h b =
@@ -42,7 +43,7 @@ module _ {N n : ℕ} {w : List ℕ} (acc : Accepted N n w) {R i : ℕ} {s : Bool
       let m : (a + 1) * R ≤ i * R = mul-le-mul-right R (omega arith) in
       omega (arith, m, ap (λ (k : ℕ). k * R) (add-one a) ∙ suc-mul a R)
 
-  module _ (p : NodePart) (is : IsPart w i R p) where
+  module _ (p : NodePart) (is : IsPart c w i R p) where
     same : p .children ≡ wordsAt w i .children
     same = ap (λ (z : Decoded). z .children) (is .node)
 
@@ -75,13 +76,18 @@ module _ {N n : ℕ} {w : List ℕ} (acc : Accepted N n w) {R i : ℕ} {s : Bool
           there = λ j. omega (arith, is .capacity-is, from-is j, part-fits (getD (p .children .nodes) j 0) (word-le j) true);
         }
 
-    listed : (j : ℕ) → j < p .children .count → childTerms s cs p j ≡ nodePrimes N w (getD (p .children .nodes) j 0)
+    -- the sign of the part is that of the listing
+    signs : (d : ℕ) → nodePrimes N (signedFunction (p .sign) w) d ≡ nodePrimes N (signedFunction c w) d
+    signs d = ap (λ (b : Bool). nodePrimes N (signedFunction b w) d) (is .sign-is)
+
+    listed : (j : ℕ) → j < p .children .count
+        → childTerms s cs p j ≡ nodePrimes N (signedFunction (p .sign) w) (getD (p .children .nodes) j 0)
     listed j l =
-        ap (λ (from : ℕ). termsFrom s from (childSize cs p j)) (from-is j)
-        ∙ terms-back st lt (getD (p .children .nodes) j 0) (children .each j l)
+        let d : ℕ = getD (p .children .nodes) j 0 in
+        ap (λ (from : ℕ). termsFrom s from (childSize cs p j)) (from-is j) ∙ terms-back st lt d (children .each j l) ∙ sym (signs d)
 
     pub part-given : NodeGiven s cs p (p .gate)
     part-given = given acc i lt s cs p (is .node) part-lies listed
 
-    pub part-made : nodeMade (p .gate) (p .children .count) (childTerms s cs p) ≡ nodePrimes N w i
-    part-made = made-exact acc i lt s cs p (is .node) part-lies listed
+    pub part-made : nodeMade (p .sign) (p .gate) (p .children .count) (childTerms s cs p) ≡ nodePrimes N (signedFunction c w) i
+    part-made = made-exact acc i lt s cs p (is .node) part-lies listed ∙ signs i

@@ -22,13 +22,13 @@ pub record Zeroed (h : Shape) (w : List ℕ) (s : Bool → List ℕ) (cs : List 
   pub counts : cs ≡ replicate (h .nodes) 0
 
 -- the parts of the nodes were to be filled; s and cs are the buffers then, and r says whether all terms fit
-pub record Tried (N n : ℕ) (w : List ℕ) (R : ℕ) (s : Bool → List ℕ) (cs : List ℕ) (r : Bool) : Type 0 where
-  pub answer : r ≡ not (exceeds N n w R)
-  pub masks : r ≡ true → (b : Bool) → s b ≡ listedMasks N n w R b
-  pub counts : r ≡ true → cs ≡ listedCounts N n w
+pub record Tried (N n : ℕ) (F : ℕ → ℕ → Bool) (R : ℕ) (s : Bool → List ℕ) (cs : List ℕ) (r : Bool) : Type 0 where
+  pub answer : r ≡ not (exceeds N n F R)
+  pub masks : r ≡ true → (b : Bool) → s b ≡ listedMasks N n F R b
+  pub counts : r ≡ true → cs ≡ listedCounts N n F
 
 -- the same, with zeros everywhere where they do not fit
-pub record Exact (N n : ℕ) (w : List ℕ) (R : ℕ) (s : Bool → List ℕ) (cs : List ℕ) (r : Bool) : Type 0 where
-  pub answer : r ≡ not (exceeds N n w R)
-  pub masks : (b : Bool) → s b ≡ cond r (listedMasks N n w R b) (replicate (n * R) 0)
-  pub counts : cs ≡ cond r (listedCounts N n w) (replicate n 0)
+pub record Exact (N n : ℕ) (F : ℕ → ℕ → Bool) (R : ℕ) (s : Bool → List ℕ) (cs : List ℕ) (r : Bool) : Type 0 where
+  pub answer : r ≡ not (exceeds N n F R)
+  pub masks : (b : Bool) → s b ≡ cond r (listedMasks N n F R b) (replicate (n * R) 0)
+  pub counts : cs ≡ cond r (listedCounts N n F) (replicate n 0)

@@ -1,10 +1,12 @@
 // The prime implicants of every node of a circuit, listed in lent buffers; and the part of a buffer that holds one node's.
 ghost use mathlib.Core.Path.{_≡_};
+ghost use mathlib.Core.Bool.{true, false};
 ghost use Prim.Native.Nat.{_*_, _≤_};
 ghost use lib.ListN.{length, replicate};
 ghost use Rattle.table.specs.Node.{maxNodes};
 ghost use Rattle.table.specs.Outcome.{accepted};
 ghost use Rattle.circuits.specs.Check.{check};
+ghost use Rattle.circuits.specs.Function.{signedFunction};
 ghost use Rattle.lists.specs.Capacity.{maxCapacity};
 ghost use Rattle.insertion.specs.Filled.{bySign};
 ghost use Rattle.nodes.specs.Part.{HasPlace};
@@ -58,8 +60,10 @@ fn clear(positives: &mut [u64], negatives: &mut [u64], counts: &mut [u32])
     zero_words(counts);
 }
 
-// What is listed: how many variables and nodes the circuit has, and the capacity of a node's part.
+// What is listed: the nodes' functions or, where the sign is false, their negations; how many variables and nodes the circuit has, and
+// the capacity of a node's part.
 struct Shape {
+    sign: bool,
     variables: u32,
     nodes: usize,
     capacity: usize,
@@ -80,12 +84,12 @@ fn fill_nodes(
 ) -> bool
     requires { ⌜ Zeroed shape (now words) (bySign (now positives) (now negatives)) (now counts) ⌝ }
     requires { ⌜ HasPlace (shape .capacity) (now ap) (now an) (now bp) (now bn) ⌝ }
-    ensures { λ r. ⌜ Tried (shape .variables) (shape .nodes) (now (words .entry)) (shape .capacity)
+    ensures { λ r. ⌜ Tried (shape .variables) (shape .nodes) (signedFunction (shape .sign) (now (words .entry))) (shape .capacity)
         (bySign (now (positives .exit)) (now (negatives .exit))) (now (counts .exit)) r ⌝ }
 {
     let mut i = 0;
     while i < shape.nodes {
-        let part = nodes::part_of(words, i, shape.capacity);
+        let part = nodes::part_of(words, i, shape.capacity, shape.sign);
         let Kept::Count(c) = nodes::fill_node(positives, negatives, ap, an, bp, bn, counts, part)
         else {
             return false;
@@ -105,7 +109,7 @@ fn fill_small(
     shape: Shape,
 ) -> bool
     requires { ⌜ Zeroed shape (now words) (bySign (now positives) (now negatives)) (now counts) × (shape .capacity ≤ smallCapacity) ⌝ }
-    ensures { λ r. ⌜ Tried (shape .variables) (shape .nodes) (now (words .entry)) (shape .capacity)
+    ensures { λ r. ⌜ Tried (shape .variables) (shape .nodes) (signedFunction (shape .sign) (now (words .entry))) (shape .capacity)
         (bySign (now (positives .exit)) (now (negatives .exit))) (now (counts .exit)) r ⌝ }
 {
     let mut ap = [0u64; SMALL];
@@ -134,7 +138,7 @@ fn fill_large(
     shape: Shape,
 ) -> bool
     requires { ⌜ Zeroed shape (now words) (bySign (now positives) (now negatives)) (now counts) ⌝ }
-    ensures { λ r. ⌜ Tried (shape .variables) (shape .nodes) (now (words .entry)) (shape .capacity)
+    ensures { λ r. ⌜ Tried (shape .variables) (shape .nodes) (signedFunction (shape .sign) (now (words .entry))) (shape .capacity)
         (bySign (now (positives .exit)) (now (negatives .exit))) (now (counts .exit)) r ⌝ }
 {
     let mut ap = [0u64; MAX_CAPACITY as usize];
@@ -163,7 +167,7 @@ fn fill_all(
     shape: Shape,
 ) -> bool
     requires { ⌜ Zeroed shape (now words) (bySign (now positives) (now negatives)) (now counts) ⌝ }
-    ensures { λ r. ⌜ Tried (shape .variables) (shape .nodes) (now (words .entry)) (shape .capacity)
+    ensures { λ r. ⌜ Tried (shape .variables) (shape .nodes) (signedFunction (shape .sign) (now (words .entry))) (shape .capacity)
         (bySign (now (positives .exit)) (now (negatives .exit))) (now (counts .exit)) r ⌝ }
 {
     if shape.capacity <= SMALL {
@@ -183,7 +187,7 @@ fn list_exact(
     requires { ⌜ (check (shape .variables) (shape .nodes) (now words) ≡ accepted) × (shape .capacity ≤ maxCapacity)
         × (length (now counts) ≡ shape .nodes) ⌝ }
     requires { ⌜ (length (now positives) ≡ shape .nodes * shape .capacity) × (length (now negatives) ≡ shape .nodes * shape .capacity) ⌝ }
-    ensures { λ r. ⌜ Exact (shape .variables) (shape .nodes) (now (words .entry)) (shape .capacity)
+    ensures { λ r. ⌜ Exact (shape .variables) (shape .nodes) (signedFunction (shape .sign) (now (words .entry))) (shape .capacity)
         (bySign (now (positives .exit)) (now (negatives .exit))) (now (counts .exit)) r ⌝ }
 {
     clear(positives, negatives, counts);
@@ -212,7 +216,7 @@ fn is_enough(
     (total <= positives.len()) & (total <= negatives.len()) & (n <= counts.len())
 }
 
-// Lists the prime implicants of an accepted circuit's nodes: 41 and 42.
+// Lists the prime implicants of an accepted circuit's nodes, or of their negations: 41 and 42.
 fn list_accepted(
     positives: &mut [u64],
     negatives: &mut [u64],
@@ -221,9 +225,10 @@ fn list_accepted(
     variables: u32,
     n: usize,
     capacity: usize,
+    sign: bool,
 ) -> Listing
     requires { ⌜ check variables n (now words) ≡ accepted ⌝ }
-    ensures { λ r. ⌜ ListResult variables n (now (words .entry)) capacity
+    ensures { λ r. ⌜ ListResult sign variables n (now (words .entry)) capacity
         (lent (now (positives .entry)) (now (negatives .entry)) (now (counts .entry)))
         (lent (now (positives .exit)) (now (negatives .exit)) (now (counts .exit))) r ⌝ }
 {
@@ -232,6 +237,7 @@ fn list_accepted(
     }
     let total = n * capacity;
     let shape = Shape {
+        sign,
         variables,
         nodes: n,
         capacity,
@@ -248,7 +254,42 @@ fn list_accepted(
     Listing::Refused(Refusal::Capacity)
 }
 
-// Lists the prime implicants of every node: those of node i from entry i × capacity on, and their number at entry i of the counts.
+// Lists the prime implicants of every node, or of its negation where the sign is false: those of node i from entry i × capacity on,
+// and their number at entry i of the counts.
+fn list_signed(
+    positives: &mut [u64],
+    negatives: &mut [u64],
+    counts: &mut [u32],
+    words: &[u32],
+    variables: u32,
+    nodes: u32,
+    capacity: u32,
+    sign: bool,
+) -> Listing
+    ensures { λ r. ⌜ ListResult sign variables nodes (now (words .entry)) capacity
+        (lent (now (positives .entry)) (now (negatives .entry)) (now (counts .entry)))
+        (lent (now (positives .exit)) (now (negatives .exit)) (now (counts .exit))) r ⌝ }
+{
+    match checks::check(words, variables, nodes) {
+        Checked::Refused(refusal) => Listing::Refused(refusal),
+        Checked::Accepted => {
+            let n = nodes as usize;
+            let size = capacity as usize;
+            list_accepted(
+                positives,
+                negatives,
+                counts,
+                words,
+                variables,
+                n,
+                size,
+                sign,
+            )
+        }
+    }
+}
+
+// Lists the prime implicants of every node ("clearances").
 pub fn list(
     positives: &mut [u64],
     negatives: &mut [u64],
@@ -258,16 +299,44 @@ pub fn list(
     nodes: u32,
     capacity: u32,
 ) -> Listing
-    ensures { λ r. ⌜ ListResult variables nodes (now (words .entry)) capacity
+    ensures { λ r. ⌜ ListResult true variables nodes (now (words .entry)) capacity
         (lent (now (positives .entry)) (now (negatives .entry)) (now (counts .entry)))
         (lent (now (positives .exit)) (now (negatives .exit)) (now (counts .exit))) r ⌝ }
 {
-    match checks::check(words, variables, nodes) {
-        Checked::Refused(refusal) => Listing::Refused(refusal),
-        Checked::Accepted => {
-            let n = nodes as usize;
-            let size = capacity as usize;
-            list_accepted(positives, negatives, counts, words, variables, n, size)
-        }
-    }
+    list_signed(
+        positives,
+        negatives,
+        counts,
+        words,
+        variables,
+        nodes,
+        capacity,
+        true,
+    )
+}
+
+// Lists the prime implicants of every node's negation ("blockers").
+pub fn list_negation(
+    positives: &mut [u64],
+    negatives: &mut [u64],
+    counts: &mut [u32],
+    words: &[u32],
+    variables: u32,
+    nodes: u32,
+    capacity: u32,
+) -> Listing
+    ensures { λ r. ⌜ ListResult false variables nodes (now (words .entry)) capacity
+        (lent (now (positives .entry)) (now (negatives .entry)) (now (counts .entry)))
+        (lent (now (positives .exit)) (now (negatives .exit)) (now (counts .exit))) r ⌝ }
+{
+    list_signed(
+        positives,
+        negatives,
+        counts,
+        words,
+        variables,
+        nodes,
+        capacity,
+        false,
+    )
 }

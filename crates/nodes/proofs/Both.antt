@@ -1,4 +1,4 @@
--- The terms of a conjunction of two: all joins, in whichever order they are made.
+-- The terms of a conjunction of two: all joins, in whichever order they are made; of its negation: two lists in order.
 use mathlib.Core.Path.{_≡_, subst, _∙_}
 use mathlib.Core.List.{List, [], List·Memᴰ}
 use Rattle.terms.specs.Joins.{joins}
@@ -9,6 +9,7 @@ use Rattle.terms.specs.declared.Term.{Term}
 use Rattle.terms.proofs.Built.{joins-in, joins-out, joined-free, JoinOf}
 use Rattle.joins.specs.Added.{insertAll}
 use Rattle.joins.proofs.Members.{inserted-sorted}
+use Rattle.unions.specs.Ordered.{Ordered}
 use Rattle.settling.specs.Sides.{Sides}
 use Rattle.settling.proofs.Least.{join-comm, turned, joins-terms}
 
@@ -23,3 +24,13 @@ swapped {a} {b} h t m =
 pub both-made : {a b : List Term} → Sides a b → insertAll (joins b a) [] ≡ sort before (joins a b)
 both-made {a} {b} h =
     inserted-sorted (h .variables) (joins b a) (joins a b) (joins-terms (turned h)) (swapped h) (swapped (turned h))
+
+pub in-order : {a b : List Term} → Sides a b → Ordered a b
+in-order h =
+    record {
+      variables = h .variables;
+      terms-low = λ t m. h .lists-low .only t m .isTerm;
+      terms-high = λ t m. h .lists-high .only t m .isTerm;
+      rising-low = h .rising-low;
+      rising-high = h .rising-high;
+    }

@@ -6,9 +6,7 @@ use mathlib.Core.List.{List, []}
 use native.Mathlib.Nat.{le-refl, le-trans}
 use native.Mathlib.Omega.{arith}
 use lib.ListN.{length, take, drop}
-use Rattle.terms.specs.Joins.{joins}
-use Rattle.terms.specs.Lists.{sort}
-use Rattle.terms.specs.Order.{before}
+use Rattle.table.specs.declared.gates.Gate.the-variants.{Conjunction}
 use Rattle.terms.specs.Term.{termsOf}
 use Rattle.terms.specs.declared.Term.{Term}
 use Rattle.lists.proofs.Parts.{length-terms}
@@ -17,7 +15,7 @@ use Rattle.insertion.specs.declared.Kept.{Kept}
 use Rattle.insertion.specs.declared.Kept.the-variants.{Count, Full}
 use Rattle.insertion.proofs.Parts.{terms-masks, length-masks, kept-count, kept-full, count-kept, full-kept}
 use Rattle.settling.specs.Sides.{Sides, SidesAt}
-use Rattle.nodes.specs.Part.{termsFrom, laidAt, joined, childFrom, childSize, childTerms, PartFilled, Conjoined, Laid}
+use Rattle.nodes.specs.Part.{gateMade, termsFrom, laidAt, madeFrom, childFrom, childSize, childTerms, PartFilled, Conjoined, Laid}
 use Rattle.nodes.specs.declared.NodePart.{NodePart}
 use Rattle.nodes.specs.declared.Terms.{Terms}
 use Rattle.nodes.proofs.Parts.{length-part, laid-nil, laid-front, laid-back, length-laid, laid-over, same-before}
@@ -33,7 +31,7 @@ length-from s from n h e =
 module _ (s : Bool → List ℕ) (counts : List ℕ) (p : NodePart) where
   -- the joins of the children from place k on
   abbrev pub after : ℕ → List Term
-  after k = joined (childTerms s counts p) k (p .children .count - k)
+  after k = madeFrom (p .sign) (childTerms s counts p) k (p .children .count - k)
 
   -- the buffers s′ hold these joins where `high` says, and are s but for the part
   pub record Joining (k : ℕ) (s′ : Bool → List ℕ) (high : Terms) : Type 0 where
@@ -48,7 +46,7 @@ module _ (s : Bool → List ℕ) (counts : List ℕ) (p : NodePart) where
     pub whole : k + 2 ≤ p .children .count → list ≡ after k
 
 module _ (s : Bool → List ℕ) (counts : List ℕ) (p : NodePart) (lies : Laid s counts p)
-    (given : Conjoined (childTerms s counts p) (p .children .count)) where
+    (given : Conjoined (p .sign) (childTerms s counts p) (p .children .count)) where
   abbrev v : ℕ → List Term
   v = childTerms s counts p
 
@@ -59,11 +57,11 @@ module _ (s : Bool → List ℕ) (counts : List ℕ) (p : NodePart) (lies : Laid
   inside true = lies .inside
   inside false = let e = lies .even in let i = lies .inside in omega arith
 
-  all-after : after s counts p 0 ≡ joined v 0 count
-  all-after = let d : count - 0 ≡ count = omega arith in ap (joined v 0) d
+  all-after : after s counts p 0 ≡ madeFrom (p .sign) v 0 count
+  all-after = let d : count - 0 ≡ count = omega arith in ap (madeFrom (p .sign) v 0) d
 
   one-after : (k : ℕ) → k + 1 ≡ count → after s counts p k ≡ v k
-  one-after k e = let d : count - k ≡ 1 = omega arith in ap (joined v k) d
+  one-after k e = let d : count - k ≡ 1 = omega arith in ap (madeFrom (p .sign) v k) d
 
   pub joining-start : (k : ℕ) (high : Terms) → k + 1 ≡ count → high .from ≡ childFrom p k → high .count ≡ childSize counts p k
       → Joining s counts p k s high
@@ -98,13 +96,13 @@ module _ (s : Bool → List ℕ) (counts : List ℕ) (p : NodePart) (lies : Laid
     two : k + suc (suc left) ≡ count
     two = omega arith
 
-    after-next : after s counts p (suc k) ≡ joined v (suc k) (suc left)
-    after-next = let d : count - suc k ≡ suc (count - suc (suc k)) = omega arith in ap (joined v (suc k)) d
+    after-next : after s counts p (suc k) ≡ madeFrom (p .sign) v (suc k) (suc left)
+    after-next = let d : count - suc k ≡ suc (count - suc (suc k)) = omega arith in ap (madeFrom (p .sign) v (suc k)) d
 
-    pub after-this : after s counts p k ≡ sort before (joins (v k) (after s counts p (suc k)))
+    pub after-this : after s counts p k ≡ gateMade (p .sign) Conjunction (v k) (after s counts p (suc k))
     after-this =
         let d : count - k ≡ suc (suc (count - suc (suc k))) = omega arith in
-        ap (joined v k) d ∙ ap (λ (l : List Term). sort before (joins (v k) l)) (sym after-next)
+        ap (madeFrom (p .sign) v k) d ∙ ap (gateMade (p .sign) Conjunction (v k)) (sym after-next)
 
     pair : Sides (v k) (after s counts p (suc k))
     pair = subst (Sides (v k)) (sym after-next) (given .pairs k left two)
@@ -113,7 +111,7 @@ module _ (s : Bool → List ℕ) (counts : List ℕ) (p : NodePart) (lies : Laid
     more-after =
         let d : count - k ≡ suc (suc (count - suc (suc k))) = omega arith in
         subst (λ (l : List Term). length l ≤ length (after s counts p k)) (sym after-next)
-        (subst (λ (l : List Term). length (joined v (suc k) (suc left)) ≤ length l) (sym (ap (joined v k) d)) (given .grows k left two))
+        (subst (λ (l : List Term). length (madeFrom (p .sign) v (suc k) (suc left)) ≤ length l) (sym (ap (madeFrom (p .sign) v k) d)) (given .grows k left two))
 
   most-after : (k : ℕ) → k < count → length (after s counts p k) ≤ length (after s counts p 0)
   most-after zero l = le-refl (length (after s counts p 0))
@@ -181,12 +179,12 @@ module _ (s : Bool → List ℕ) (counts : List ℕ) (p : NodePart) (lies : Laid
 
     -- what was made
     module _ (low : Terms) (f : low .from ≡ childFrom p k) (c : low .count ≡ childSize counts p k) (s″ : Bool → List ℕ) (r : Kept)
-        (made : PartFilled (sort before (joins (termsFrom s′ (low .from) (low .count)) (termsFrom s′ (high .from) (high .count))))
+        (made : PartFilled (gateMade (p .sign) Conjunction (termsFrom s′ (low .from) (low .count)) (termsFrom s′ (high .from) (high .count)))
         (p .at) (p .capacity) s′ s″ r) where
       filled : PartFilled (after s counts p k) (p .at) (p .capacity) s′ s″ r
       filled =
           subst (λ (l : List Term). PartFilled l (p .at) (p .capacity) s′ s″ r)
-          (ap₂ (λ (a b : List Term). sort before (joins a b)) (low-terms low f c) (j .terms) ∙ sym (after-this k (j .some))) made
+          (ap₂ (gateMade (p .sign) Conjunction) (low-terms low f c) (j .terms) ∙ sym (after-this k (j .some))) made
 
       pub joining-more : (n : ℕ) → r ≡ Count n → Joining s counts p k s″ (record { from = p .at; count = n })
       joining-more n e =
@@ -216,7 +214,7 @@ module _ (s : Bool → List ℕ) (counts : List ℕ) (p : NodePart) (lies : Laid
               ∙ laid-back (p .at) (p .capacity) (s b) (inside b) (masksOf b (after s counts p k))
 
       -- more joins than the part holds
-      pub joining-full : r ≡ Full → PartFilled (joined v 0 count) (p .at) (p .capacity) s s″ r
+      pub joining-full : r ≡ Full → PartFilled (madeFrom (p .sign) v 0 count) (p .at) (p .capacity) s s″ r
       joining-full e =
           let over : p .capacity < length (after s counts p k) = kept-full (p .capacity) (after s counts p k) (sym e ∙ filled .answer) in
           let most : length (after s counts p k) ≤ length (after s counts p 0) = most-after k (let h = j .some in omega arith) in
@@ -226,7 +224,7 @@ module _ (s : Bool → List ℕ) (counts : List ℕ) (p : NodePart) (lies : Laid
 
   -- all are joined
   pub joining-end : (s′ : Bool → List ℕ) (high : Terms) → Joining s counts p 0 s′ high
-      → PartFilled (joined v 0 count) (p .at) (p .capacity) s s′ (Count (high .count))
+      → PartFilled (madeFrom (p .sign) v 0 count) (p .at) (p .capacity) s s′ (Count (high .count))
   joining-end s′ high j =
       let t = given .two in
       subst (λ (l : List Term). PartFilled l (p .at) (p .capacity) s s′ (Count (high .count))) all-after

@@ -1,9 +1,8 @@
 -- One node of an accepted table: its children's terms are what is taken for granted of them, and what is made of them is its own.
 use Prim.Native.Nat.{ℕ, suc, _+_, _-_, _<_, _≤_}
-use mathlib.Core.Path.{_≡_, refl, sym, ap, ap₂, subst, _∙_}
+use mathlib.Core.Path.{_≡_, sym, ap, ap₂, subst, _∙_}
 use mathlib.Core.Bool.{Bool, true, false}
-use mathlib.Core.Logic.{_⊎_}
-use mathlib.Core.List.{List, [], _∷_, List·Memᴰ, List·Memᴰ·head, List·Memᴰ·tail}
+use mathlib.Core.List.{List, [], _∷_, List·Memᴰ}
 use native.Mathlib.Nat.{add-zero}
 use native.Mathlib.Omega.{arith}
 use lib.Dec.{T, eqb→eq}
@@ -17,49 +16,59 @@ use Rattle.table.specs.Node.{constant, literal, decision, conjunction, unknown}
 use Rattle.table.specs.Words.{countFits, wellFormed, malformed}
 use Rattle.table.specs.declared.gates.Decoded.{Decoded}
 use Rattle.table.specs.declared.gates.Gate.{Gate}
+use Rattle.table.specs.declared.gates.Gate.the-variants.{Conjunction}
 use Rattle.table.specs.declared.layout.Children.{Children}
 use Rattle.table.specs.declared.layout.NodeWords.{NodeWords}
 use Rattle.table.proofs.ChildLists.{list-length}
 use Rattle.table.proofs.Encoding.{Fits}
 use Rattle.table.proofs.NodePlaces.{eight-long}
-use Rattle.terms.specs.Joins.{joins, decisionTerms}
+use Rattle.terms.specs.Joins.{decisionTerms}
 use Rattle.terms.specs.Lists.{sort, Rising}
 use Rattle.terms.specs.Order.{before}
 use Rattle.terms.specs.Prime.{primes, Lists}
 use Rattle.terms.specs.declared.Term.{Term}
-use Rattle.terms.proofs.Embeddings.{embeds-length, right-embeds}
-use Rattle.terms.proofs.Implicants.{Free, free-unmentioned}
+use Rattle.terms.proofs.Embeddings.{embeds-length}
+use Rattle.terms.proofs.Implicants.{free-unmentioned}
 use Rattle.terms.proofs.Listed.{primes-lists, primes-rising}
-use Rattle.circuits.specs.Check.{allDisjoint}
-use Rattle.circuits.specs.Function.{function, support}
+use Rattle.circuits.specs.Function.{signedFunction}
 use Rattle.circuits.proofs.Accepted.{variables-wide, Accepted}
-use Rattle.circuits.proofs.Nodes.{allOf, node-fits, function-is, decision-free, conjunction-below, conjunction-disjoint, all-apart}
-use Rattle.circuits.proofs.Nodes.{drop-disjoint, drop-mem}
-use Rattle.circuits.proofs.Rows.{constant-rows, literal-rows, decision-rows, joined-rows, alone-rows}
-use Rattle.circuits.proofs.Satisfiable.{conjunction-live, has-prime}
+use Rattle.circuits.proofs.Conjoined.{apart-rest, apart-drop, conjunction-apart, rest-up, all-rows, Apart}
+use Rattle.circuits.proofs.Nodes.{node-fits}
+use Rattle.circuits.proofs.Rows.{constant-rows, literal-rows, decision-rows, alone-rows, conjunction-rows}
+use Rattle.circuits.proofs.Signed.{signedAll, side-free}
 use Rattle.settling.specs.Sides.{Sides, SidesAt}
-use Rattle.nodes.specs.Part.{joined, nodeMade, childFrom, childSize, childTerms, Conjoined, NodeGiven, Laid}
+use Rattle.nodes.specs.Part.{gateMade, madeFrom, nodeMade, childFrom, childSize, childTerms, Conjoined, NodeGiven, Laid}
 use Rattle.nodes.specs.declared.NodePart.{NodePart}
 use Rattle.nodes.proofs.Parts.{length-part}
 
-module _ {N n : ℕ} {w : List ℕ} (acc : Accepted N n w) where
-  abbrev rows : ℕ → List Term
-  rows c = primes N (function w c)
+-- two lists of all prime implicants
+abbrev sides-of : {N n : ℕ} {w : List ℕ} → Accepted N n w → (a b : List Term) (f g : ℕ → Bool) → a ≡ primes N f → b ≡ primes N g → Sides a b
+sides-of {N} acc a b f g q r =
+    record {
+      variables = N;
+      wide = variables-wide acc;
+      low = f;
+      high = g;
+      lists-low = subst (Lists N f) (sym q) (primes-lists N f);
+      lists-high = subst (Lists N g) (sym r) (primes-lists N g);
+      rising-low = subst (Rising before) (sym q) (primes-rising N f);
+      rising-high = subst (Rising before) (sym r) (primes-rising N g);
+    }
 
-  -- the lists of nodes with no variable in common, joined, have the prime implicants of their conjunction
-  joined-primes : (l : List ℕ) (v : ℕ → List Term) (k : ℕ) → 1 ≤ length l
-      → ((j : ℕ) → j < length l → v (k + j) ≡ rows (getD l j 0)) → T (allDisjoint (support w) l) → ((c : ℕ) → List·Memᴰ c l → c < n)
-      → joined v k (length l) ≡ primes N (allOf w l)
-  joined-primes [] v k some h d below = absurd (omega arith)
-  joined-primes (c ∷ []) v k some h d below =
-      ap v (sym (add-zero k)) ∙ h 0 (omega arith) ∙ alone-rows acc c
-  joined-primes (c ∷ e ∷ l) v k some h d below =
-      let rest : joined v (suc k) (length (e ∷ l)) ≡ primes N (allOf w (e ∷ l)) =
-      joined-primes (e ∷ l) v (suc k) (omega arith)
-      (λ j lt. let q : k + suc j ≡ suc k + j = omega arith in ap v (sym q) ∙ h (suc j) (omega arith))
-      (drop-disjoint acc 1 (c ∷ e ∷ l) d) (λ b m. below b (List·Memᴰ·tail m)) in
-      ap₂ (λ (p q : List Term). sort before (joins p q)) (ap v (sym (add-zero k)) ∙ h 0 (omega arith)) rest
-      ∙ joined-rows acc c (e ∷ l) d below
+module _ {N n : ℕ} {w : List ℕ} (acc : Accepted N n w) (c : Bool) where
+  abbrev rows : ℕ → List Term
+  rows d = primes N (signedFunction c w d)
+
+  -- what is made of nodes with no variable in common has the prime implicants of their conjunction, or of its negation
+  made-primes : (l : List ℕ) (v : ℕ → List Term) (k : ℕ) → 1 ≤ length l
+      → ((j : ℕ) → j < length l → v (k + j) ≡ rows (getD l j 0)) → Apart acc l → madeFrom c v k (length l) ≡ primes N (signedAll c w l)
+  made-primes [] v k some h a = absurd (omega arith)
+  made-primes (d ∷ []) v k some h a = ap v (sym (add-zero k)) ∙ h 0 (omega arith) ∙ alone-rows acc c d
+  made-primes (d ∷ e ∷ l) v k some h a =
+      let rest : madeFrom c v (suc k) (length (e ∷ l)) ≡ primes N (signedAll c w (e ∷ l)) =
+      made-primes (e ∷ l) v (suc k) (omega arith)
+      (λ j lt. let q : k + suc j ≡ suc k + j = omega arith in ap v (sym q) ∙ h (suc j) (omega arith)) (apart-rest acc d (e ∷ l) a) in
+      ap₂ (gateMade c Conjunction) (ap v (sym (add-zero k)) ∙ h 0 (omega arith)) rest ∙ all-rows acc d (e ∷ l) a c
 
   module _ (i : ℕ) (l : i < n) (cs : Children) (long : length (cs .nodes) ≡ maxChildren) (few : cs .count ≤ maxChildren)
       (v : ℕ → List Term) (h : (j : ℕ) → j < cs .count → v j ≡ rows (getD (cs .nodes) j 0)) where
@@ -74,17 +83,19 @@ module _ {N n : ℕ} {w : List ℕ} (acc : Accepted N n w) where
         let m : j < cs .count = omega (arith, list-long) in
         h j m ∙ ap rows (sym (getD-take (cs .count) (cs .nodes) j 0 m))
 
-    -- the joins from a place on
+    -- what is made from a place on
     module _ (e : nodeAt w i ≡ conjunction list) where
-      from-place : (k : ℕ) → k < length list → joined v k (length list - k) ≡ primes N (allOf w (drop k list))
+      apart : (k : ℕ) → Apart acc (drop k list)
+      apart k = apart-drop acc k list (conjunction-apart acc i list l e)
+
+      from-place : (k : ℕ) → k < length list → madeFrom c v k (length list - k) ≡ primes N (signedAll c w (drop k list))
       from-place k lt =
           let d : length (drop k list) ≡ length list - k = length-drop k list in
-          ap (joined v k) (sym d)
-          ∙ joined-primes (drop k list) v k (omega arith)
-          (λ j m. at-place (k + j) (omega arith) ∙ ap rows (sym (getD-drop k list j 0)))
-          (drop-disjoint acc k list (conjunction-disjoint acc i list l e)) (λ c m. conjunction-below acc i list l e c (drop-mem k list c m))
+          ap (madeFrom c v k) (sym d)
+          ∙ made-primes (drop k list) v k (omega arith)
+          (λ j m. at-place (k + j) (omega arith) ∙ ap rows (sym (getD-drop k list j 0))) (apart k)
 
-      pub children-conjoined : 2 ≤ length list → Conjoined v (cs .count)
+      pub children-conjoined : 2 ≤ length list → Conjoined c v (cs .count)
       children-conjoined two =
           record {
             two = omega (arith, list-long);
@@ -95,53 +106,35 @@ module _ {N n : ℕ} {w : List ℕ} (acc : Accepted N n w) where
           split : (k : ℕ) → k < length list → drop k list ≡ getD list k 0 ∷ drop (suc k) list
           split k lt = drop-cons list k 0 lt
 
-          after : (k m : ℕ) → k + suc (suc m) ≡ length list → joined v (suc k) (suc m) ≡ primes N (allOf w (drop (suc k) list))
+          after : (k m : ℕ) → k + suc (suc m) ≡ length list → madeFrom c v (suc k) (suc m) ≡ primes N (signedAll c w (drop (suc k) list))
           after k m q =
               let d : suc m ≡ length list - suc k = omega arith in
-              ap (joined v (suc k)) d ∙ from-place (suc k) (omega arith)
+              ap (madeFrom c v (suc k)) d ∙ from-place (suc k) (omega arith)
 
-          here : (k m : ℕ) → k + suc (suc m) ≡ length list → joined v k (suc (suc m)) ≡ primes N (allOf w (drop k list))
+          here : (k m : ℕ) → k + suc (suc m) ≡ length list → madeFrom c v k (suc (suc m)) ≡ primes N (signedAll c w (drop k list))
           here k m q =
               let d : suc (suc m) ≡ length list - k = omega arith in
-              ap (joined v k) d ∙ from-place k (omega arith)
+              ap (madeFrom c v k) d ∙ from-place k (omega arith)
 
-          pair : (k m : ℕ) → k + suc (suc m) ≡ length list → Sides (v k) (joined v (suc k) (suc m))
+          pair : (k m : ℕ) → k + suc (suc m) ≡ length list → Sides (v k) (madeFrom c v (suc k) (suc m))
           pair k m q =
-              let c : ℕ = getD list k 0 in
-              let p : v k ≡ rows c = at-place k (omega arith) in
-              let g : ℕ → Bool = allOf w (drop (suc k) list) in
-              record {
-                variables = N;
-                wide = variables-wide acc;
-                low = function w c;
-                high = g;
-                lists-low = subst (Lists N (function w c)) (sym p) (primes-lists N (function w c));
-                lists-high = subst (Lists N g) (sym (after k m q)) (primes-lists N g);
-                rising-low = subst (Rising before) (sym p) (primes-rising N (function w c));
-                rising-high = subst (Rising before) (sym (after k m q)) (primes-rising N g);
-              }
+              sides-of acc (v k) (madeFrom c v (suc k) (suc m)) (signedFunction c w (getD list k 0)) (signedAll c w (drop (suc k) list))
+              (at-place k (omega arith)) (after k m q)
 
-          more : (k m : ℕ) → k + suc (suc m) ≡ length list → length (joined v (suc k) (suc m)) ≤ length (joined v k (suc (suc m)))
+          more : (k m : ℕ) → k + suc (suc m) ≡ length list → length (madeFrom c v (suc k) (suc m)) ≤ length (madeFrom c v k (suc (suc m)))
           more k m q =
-              let c : ℕ = getD list k 0 in
+              let d : ℕ = getD list k 0 in
               let rest : List ℕ = drop (suc k) list in
-              let s : drop k list ≡ c ∷ rest = split k (omega arith) in
-              let mem : List·Memᴰ c list = drop-mem k list c (subst (List·Memᴰ c) (sym s) (List·Memᴰ·head refl)) in
-              let below : (d : ℕ) → List·Memᴰ d list → d < n = conjunction-below acc i list l e in
-              let (t, pt) = has-prime acc c (below c mem) (conjunction-live acc i list l e c mem) in
-              let apart : (x : ℕ) → x < N → Free N (function w c) x ⊎ Free N (allOf w rest) x =
-              all-apart acc c rest
-              (subst (λ (z : List ℕ). T (allDisjoint (support w) z)) s (drop-disjoint acc k list (conjunction-disjoint acc i list l e)))
-              (λ d p. below d (drop-mem k list d (subst (List·Memᴰ d) (sym s) p))) in
-              subst (λ (z : List Term). length z ≤ length (joined v k (suc (suc m)))) (sym (after k m q))
-              (subst (λ (z : List Term). length (primes N (allOf w rest)) ≤ length z)
-              (sym (here k m q ∙ ap (λ (z : List ℕ). primes N (allOf w z)) s))
-              (embeds-length N (allOf w rest) (allOf w (c ∷ rest)) (right-embeds N (function w c) (allOf w rest) apart t pt)))
+              let s : drop k list ≡ d ∷ rest = split k (omega arith) in
+              subst (λ (z : List Term). length z ≤ length (madeFrom c v k (suc (suc m)))) (sym (after k m q))
+              (subst (λ (z : List Term). length (primes N (signedAll c w rest)) ≤ length z)
+              (sym (here k m q ∙ ap (λ (z : List ℕ). primes N (signedAll c w z)) s))
+              (embeds-length N (signedAll c w rest) (signedAll c w (d ∷ rest)) (rest-up acc d rest (subst (Apart acc) s (apart k)) c)))
 
-      conjunction-made : 2 ≤ length list → joined v 0 (cs .count) ≡ rows i
+      conjunction-made : 2 ≤ length list → madeFrom c v 0 (cs .count) ≡ rows i
       conjunction-made two =
           let d : cs .count ≡ length list - 0 = omega (arith, list-long) in
-          ap (joined v 0) d ∙ from-place 0 (omega arith) ∙ ap (primes N) (sym (function-is acc i (conjunction list) l e))
+          ap (madeFrom c v 0) d ∙ from-place 0 (omega arith) ∙ conjunction-rows acc c i list l e
 
     -- ---- by the kind of the node
     module _ (x : ℕ) where
@@ -151,15 +144,14 @@ module _ {N n : ℕ} {w : List ℕ} (acc : Accepted N n w) where
       abbrev high : ℕ
       high = getD (cs .nodes) 1 0
 
-      by-kind : (k : Kind) → T (countFits k (cs .count)) → nodeAt w i ≡ decode k x cs → nodeMade (gate k x low high) (cs .count) v ≡ rows i
-      by-kind (constantKind c) fit e = constant-rows N c ∙ ap (primes N) (sym (function-is acc i (constant c) l e))
-      by-kind (literalKind c) fit e =
-          literal-rows N c x (node-fits acc i (literal c x) l e) ∙ ap (primes N) (sym (function-is acc i (literal c x) l e))
+      by-kind : (k : Kind) → T (countFits k (cs .count)) → nodeAt w i ≡ decode k x cs
+          → nodeMade c (gate k x low high) (cs .count) v ≡ rows i
+      by-kind (constantKind b) fit e = constant-rows acc c i b l e
+      by-kind (literalKind b) fit e = literal-rows acc c i b x l e
       by-kind decisionKind fit e =
           let two : cs .count ≡ 2 = eqb→eq (cs .count) 2 fit in
           ap₂ (λ (p q : List Term). sort before (decisionTerms x p q)) (h 0 (omega arith)) (h 1 (omega arith))
-          ∙ decision-rows acc i x low high l e (node-fits acc i (decision x low high) l e .0)
-          ∙ ap (primes N) (sym (function-is acc i (decision x low high) l e))
+          ∙ decision-rows acc c i x low high l e
       by-kind conjunctionKind fit e =
           let f : Fits N i (conjunction list) = node-fits acc i (conjunction list) l e in conjunction-made e (f .0)
       by-kind unknownKind fit e = absurd (node-fits acc i unknown l e)
@@ -167,7 +159,11 @@ module _ {N n : ℕ} {w : List ℕ} (acc : Accepted N n w) where
 -- ---- node i, whose part is p, in buffers s that hold its children's prime implicants
 module _ {N n : ℕ} {w : List ℕ} (acc : Accepted N n w) (i : ℕ) (l : i < n) (s : Bool → List ℕ) (counts : List ℕ) (p : NodePart)
     (is : record { gate = p .gate; children = p .children } ≡ decodedAt w i) (lies : Laid s counts p)
-    (h : (j : ℕ) → j < p .children .count → childTerms s counts p j ≡ primes N (function w (getD (p .children .nodes) j 0))) where
+    (h : (j : ℕ) → j < p .children .count
+    → childTerms s counts p j ≡ primes N (signedFunction (p .sign) w (getD (p .children .nodes) j 0))) where
+  abbrev node-of : ℕ → ℕ → Bool
+  node-of = signedFunction (p .sign) w
+
   abbrev y : NodeWords
   y = wordsAt w i
 
@@ -201,10 +197,10 @@ module _ {N n : ℕ} {w : List ℕ} (acc : Accepted N n w) (i : ℕ) (l : i < n)
       ∙ ap (λ (z : Children). gate k (y .variable) (getD (z .nodes) 0 0) (getD (z .nodes) 1 0)) (sym same)
 
   -- what is made of it is its own
-  pub made-exact : nodeMade (p .gate) (cs .count) (childTerms s counts p) ≡ primes N (function w i)
+  pub made-exact : nodeMade (p .sign) (p .gate) (cs .count) (childTerms s counts p) ≡ primes N (node-of i)
   made-exact =
-      ap (λ (g : Gate). nodeMade g (cs .count) (childTerms s counts p)) gated
-      ∙ by-kind acc i l cs long (lies .few) (childTerms s counts p) h (y .variable) k counted node
+      ap (λ (g : Gate). nodeMade (p .sign) g (cs .count) (childTerms s counts p)) gated
+      ∙ by-kind acc (p .sign) i l cs long (lies .few) (childTerms s counts p) h (y .variable) k counted node
 
   -- ---- what is taken for granted of its children's terms
   abbrev masks : ℕ → Bool → List ℕ
@@ -217,9 +213,9 @@ module _ {N n : ℕ} {w : List ℕ} (acc : Accepted N n w) (i : ℕ) (l : i < n)
       length-part (childFrom p j) (childSize counts p j) (s false)
       (let a = lies .sizes j in let t = lies .there j in let e = lies .even in omega arith)
 
-  abbrev sides-of : (a b : ℕ) → childTerms s counts p 0 ≡ primes N (function w a) → childTerms s counts p 1 ≡ primes N (function w b)
+  abbrev sides-at : (a b : ℕ) → childTerms s counts p 0 ≡ primes N (node-of a) → childTerms s counts p 1 ≡ primes N (node-of b)
       → SidesAt (masks 0 true) (masks 0 false) (masks 1 true) (masks 1 false)
-  sides-of a b q r =
+  sides-at a b q r =
       let c = lies .sizes 0 in
       let d = lies .sizes 1 in
       let small = lies .small in
@@ -228,41 +224,32 @@ module _ {N n : ℕ} {w : List ℕ} (acc : Accepted N n w) (i : ℕ) (l : i < n)
         even-high = masks-long 1 false ∙ sym (masks-long 1 true);
         few-low = omega (arith, masks-long 0 true);
         few-high = omega (arith, masks-long 1 true);
-        sides = record {
-          variables = N;
-          wide = variables-wide acc;
-          low = function w a;
-          high = function w b;
-          lists-low = subst (Lists N (function w a)) (sym q) (primes-lists N (function w a));
-          lists-high = subst (Lists N (function w b)) (sym r) (primes-lists N (function w b));
-          rising-low = subst (Rising before) (sym q) (primes-rising N (function w a));
-          rising-high = subst (Rising before) (sym r) (primes-rising N (function w b));
-        };
+        sides = sides-of acc (childTerms s counts p 0) (childTerms s counts p 1) (node-of a) (node-of b) q r;
       }
 
   given-kind : (k : Kind) (x : ℕ) → T (countFits k (cs .count)) → nodeAt w i ≡ decode k x cs
       → NodeGiven s counts p (gate k x (getD (cs .nodes) 0 0) (getD (cs .nodes) 1 0))
-  given-kind (constantKind c) x fit e = tt
-  given-kind (literalKind c) x fit e =
-      let f : x < N = node-fits acc i (literal c x) l e in omega (arith, variables-wide acc)
+  given-kind (constantKind b) x fit e = tt
+  given-kind (literalKind b) x fit e =
+      let f : x < N = node-fits acc i (literal b x) l e in omega (arith, variables-wide acc)
   given-kind decisionKind x fit e =
       let two : cs .count ≡ 2 = eqb→eq (cs .count) 2 fit in
       let a : ℕ = getD (cs .nodes) 0 0 in
       let b : ℕ = getD (cs .nodes) 1 0 in
       let f : Fits N i (decision x a b) = node-fits acc i (decision x a b) l e in
-      let q : childTerms s counts p 0 ≡ primes N (function w a) = h 0 (omega arith) in
-      let r : childTerms s counts p 1 ≡ primes N (function w b) = h 1 (omega arith) in
+      let q : childTerms s counts p 0 ≡ primes N (node-of a) = h 0 (omega arith) in
+      let r : childTerms s counts p 1 ≡ primes N (node-of b) = h 1 (omega arith) in
       record {
-        at = sides-of a b q r;
+        at = sides-at a b q r;
         below = f .0;
-        not-low = λ t m s k. free-unmentioned N (function w a) x (decision-free acc i x a b l e false) t
-            (primes-lists N (function w a) .only t (subst (List·Memᴰ t) q m)) s k;
-        not-high = λ t m s k. free-unmentioned N (function w b) x (decision-free acc i x a b l e true) t
-            (primes-lists N (function w b) .only t (subst (List·Memᴰ t) r m)) s k;
+        not-low = λ t m s k. free-unmentioned N (node-of a) x (side-free acc (p .sign) i x a b l e false) t
+            (primes-lists N (node-of a) .only t (subst (List·Memᴰ t) q m)) s k;
+        not-high = λ t m s k. free-unmentioned N (node-of b) x (side-free acc (p .sign) i x a b l e true) t
+            (primes-lists N (node-of b) .only t (subst (List·Memᴰ t) r m)) s k;
       }
   given-kind conjunctionKind x fit e =
       let f : Fits N i (conjunction (childList cs)) = node-fits acc i (conjunction (childList cs)) l e in
-      children-conjoined acc i l cs long (lies .few) (childTerms s counts p) h e (f .0)
+      children-conjoined acc (p .sign) i l cs long (lies .few) (childTerms s counts p) h e (f .0)
   given-kind unknownKind x fit e = tt
 
   pub given : NodeGiven s counts p (p .gate)

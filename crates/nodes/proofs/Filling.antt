@@ -27,18 +27,18 @@ pub record Simple (g : Gate) : Type 0 where
   pub given : (s : Bool → List ℕ) (counts : List ℕ) (p : NodePart) → NodeGiven s counts p g
       → Given g (take (childSize counts p 0) (drop (childFrom p 0) (s true))) (take (childSize counts p 0) (drop (childFrom p 0) (s false)))
       (take (childSize counts p 1) (drop (childFrom p 1) (s true))) (take (childSize counts p 1) (drop (childFrom p 1) (s false)))
-  pub made : (count : ℕ) (v : ℕ → List Term) → gateMade g (v 0) (v 1) ≡ nodeMade g count v
+  pub made : (c : Bool) (count : ℕ) (v : ℕ → List Term) → gateMade c g (v 0) (v 1) ≡ nodeMade c g count v
 
 either : (g : Gate) → (g ≡ Conjunction) ⊎ Simple g
-either (Constant b) = inr (record { last = λ n. refl; given = λ s counts p h. tt; made = λ n v. refl })
-either (Literal b x) = inr (record { last = λ n. refl; given = λ s counts p h. h; made = λ n v. refl })
-either (Decision x a b) = inr (record { last = λ n. refl; given = λ s counts p h. h; made = λ n v. refl })
+either (Constant b) = inr (record { last = λ n. refl; given = λ s counts p h. tt; made = λ c n v. refl })
+either (Literal b x) = inr (record { last = λ n. refl; given = λ s counts p h. h; made = λ c n v. refl })
+either (Decision x a b) = inr (record { last = λ n. refl; given = λ s counts p h. h; made = λ c n v. refl })
 either Conjunction = inl refl
-either Unknown = inr (record { last = λ n. refl; given = λ s counts p h. tt; made = λ n v. refl })
+either Unknown = inr (record { last = λ n. refl; given = λ s counts p h. tt; made = λ c n v. refl })
 
 module _ (s : Bool → List ℕ) (counts : List ℕ) (p : NodePart) where
   abbrev made : List Term
-  made = nodeMade (p .gate) (p .children .count) (childTerms s counts p)
+  made = nodeMade (p .sign) (p .gate) (p .children .count) (childTerms s counts p)
 
   abbrev First : ℕ → (Bool → List ℕ) → Terms → Type 0
   First k s′ high = Simple (p .gate) × (k ≡ 1) × (s′ ≡ s) × (high .from ≡ childFrom p 1) × (high .count ≡ childSize counts p 1)
@@ -51,14 +51,14 @@ module _ (s : Bool → List ℕ) (counts : List ℕ) (p : NodePart) where
   Filling k s′ high = ((p .gate ≡ Conjunction) × Joining s counts p k s′ high) ⊎ (First k s′ high ⊎ Done k s′ high)
 
   module _ (lies : Laid s counts p) (given : NodeGiven s counts p (p .gate)) where
-    conjoined : p .gate ≡ Conjunction → Conjoined (childTerms s counts p) (p .children .count)
+    conjoined : p .gate ≡ Conjunction → Conjoined (p .sign) (childTerms s counts p) (p .children .count)
     conjoined e = subst (NodeGiven s counts p) e given
 
     all-joined : (e : p .gate ≡ Conjunction) (s′ : Bool → List ℕ) (r : Kept)
-        → PartFilled (nodeMade Conjunction (p .children .count) (childTerms s counts p)) (p .at) (p .capacity) s s′ r
+        → PartFilled (nodeMade (p .sign) Conjunction (p .children .count) (childTerms s counts p)) (p .at) (p .capacity) s s′ r
         → PartFilled made (p .at) (p .capacity) s s′ r
     all-joined e s′ r =
-        subst (λ (g : Gate). PartFilled (nodeMade g (p .children .count) (childTerms s counts p)) (p .at) (p .capacity) s s′ r) (sym e)
+        subst (λ (g : Gate). PartFilled (nodeMade (p .sign) g (p .children .count) (childTerms s counts p)) (p .at) (p .capacity) s s′ r) (sym e)
 
     inside : (b : Bool) → p .at + p .capacity ≤ length (s b)
     inside true = lies .inside
@@ -182,13 +182,13 @@ module _ (s : Bool → List ℕ) (counts : List ℕ) (p : NodePart) where
       turn-given (inr (inr h)) = absurd (let z = h .0 in omega arith)
 
       module _ (s″ : Bool → List ℕ) (r : Kept)
-          (filled : PartFilled (gateMade (p .gate) (termsFrom s′ (low .from) (low .count)) (termsFrom s′ (high .from) (high .count)))
+          (filled : PartFilled (gateMade (p .sign) (p .gate) (termsFrom s′ (low .from) (low .count)) (termsFrom s′ (high .from) (high .count)))
           (p .at) (p .capacity) s′ s″ r) where
         joined-here : p .gate ≡ Conjunction
-            → PartFilled (gateMade Conjunction (termsFrom s′ (low .from) (low .count)) (termsFrom s′ (high .from) (high .count)))
+            → PartFilled (gateMade (p .sign) Conjunction (termsFrom s′ (low .from) (low .count)) (termsFrom s′ (high .from) (high .count)))
             (p .at) (p .capacity) s′ s″ r
         joined-here e =
-            subst (λ (g : Gate). PartFilled (gateMade g (termsFrom s′ (low .from) (low .count)) (termsFrom s′ (high .from) (high .count)))
+            subst (λ (g : Gate). PartFilled (gateMade (p .sign) g (termsFrom s′ (low .from) (low .count)) (termsFrom s′ (high .from) (high .count)))
             (p .at) (p .capacity) s′ s″ r) e filled
 
         all-made : First (suc k) s′ high → PartFilled made (p .at) (p .capacity) s s″ r
@@ -201,7 +201,7 @@ module _ (s : Bool → List ℕ) (counts : List ℕ) (p : NodePart) where
             ap₂ (termsFrom s′) (h .3) (h .4) ∙ ap (λ (t : Bool → List ℕ). termsFrom t (childFrom p 1) (childSize counts p 1)) (h .2) in
             subst (λ (t : Bool → List ℕ). PartFilled made (p .at) (p .capacity) t s″ r) (h .2)
             (subst (λ (l : List Term). PartFilled l (p .at) (p .capacity) s′ s″ r)
-            (ap₂ (gateMade (p .gate)) low-terms high-terms ∙ h .0 .made (p .children .count) (childTerms s counts p)) filled)
+            (ap₂ (gateMade (p .sign) (p .gate)) low-terms high-terms ∙ h .0 .made (p .sign) (p .children .count) (childTerms s counts p)) filled)
 
         pub filling-more : Filling (suc k) s′ high → (n : ℕ) → r ≡ Count n → Filling k s″ (record { from = p .at; count = n })
         filling-more (inl (e, j)) n q =

@@ -10,11 +10,12 @@ use Rattle.table.specs.Layout.{maxChildren}
 use Rattle.table.specs.Node.{maxNodes}
 use Rattle.table.specs.declared.gates.Gate.{Gate}
 use Rattle.table.specs.declared.gates.Gate.the-variants.{Constant, Literal, Decision, Conjunction, Unknown}
-use Rattle.terms.specs.Joins.{joins, decisionTerms}
+use Rattle.terms.specs.Joins.{conjunctionTerms, decisionTerms}
 use Rattle.terms.specs.Lists.{sort}
 use Rattle.terms.specs.Order.{before}
 use Rattle.terms.specs.Term.{empty, extend, termsOf}
 use Rattle.terms.specs.declared.Term.{Term}
+use Rattle.circuits.specs.Function.{signed}
 use Rattle.lists.specs.Capacity.{maxCapacity}
 use Rattle.insertion.specs.Filled.{masksOf, laid, keptOf}
 use Rattle.insertion.specs.declared.Kept.{Kept}
@@ -22,13 +23,14 @@ use Rattle.settling.specs.Sides.{Sides, SidesAt, DecidedAt}
 use Rattle.nodes.specs.declared.NodePart.{NodePart}
 
 -- ---- two lists
--- what is made of a gate from two lists: the terms of two children, or a child's and the joins of those after it
-abbrev pub gateMade : Gate → List Term → List Term → List Term
-gateMade (Constant b) l k = cond b (empty ∷ []) []
-gateMade (Literal b x) l k = extend empty x b ∷ []
-gateMade (Decision x a b) l k = sort before (decisionTerms x l k)
-gateMade Conjunction l k = sort before (joins l k)
-gateMade Unknown l k = []
+-- what is made of a gate, or of its negation where the sign is false, from two lists: the terms of two children, or a child's and
+-- what is made of those after it
+abbrev pub gateMade : Bool → Gate → List Term → List Term → List Term
+gateMade c (Constant b) l k = cond (signed c b) (empty ∷ []) []
+gateMade c (Literal b x) l k = extend empty x (signed c b) ∷ []
+gateMade c (Decision x a b) l k = sort before (decisionTerms x l k)
+gateMade c Conjunction l k = sort before (conjunctionTerms c l k)
+gateMade c Unknown l k = []
 
 -- what is taken for granted of these terms: they are prime implicants in order, a decision's variable is in none of them
 abbrev pub Given : Gate → List ℕ → List ℕ → List ℕ → List ℕ → Type 0
@@ -56,19 +58,19 @@ pub record PartFilled (l : List Term) (at capacity : ℕ) (s s′ : Bool → Lis
   pub masks : length l ≤ capacity → (b : Bool) → s′ b ≡ laidAt at capacity (masksOf b l) (s b)
 
 -- ---- up to eight lists, v j being the terms of the child at place j
--- the lists of m places from j on, joined in order: the last one, and then each with the joins of those after it
-abbrev pub joined : (ℕ → List Term) → ℕ → ℕ → List Term
-joined v j zero = empty ∷ []
-joined v j (suc zero) = v j
-joined v j (suc (suc m)) = sort before (joins (v j) (joined v (suc j) (suc m)))
+-- a conjunction of m children from place j on, at least one: the last one's list, and then each with what is made of those after it
+abbrev pub madeFrom : Bool → (ℕ → List Term) → ℕ → ℕ → List Term
+madeFrom c v j zero = []
+madeFrom c v j (suc zero) = v j
+madeFrom c v j (suc (suc m)) = gateMade c Conjunction (v j) (madeFrom c v (suc j) (suc m))
 
 -- what is made of a gate from the terms of its children; count is the number of a conjunction's
-abbrev pub nodeMade : Gate → ℕ → (ℕ → List Term) → List Term
-nodeMade (Constant b) count v = gateMade (Constant b) (v 0) (v 1)
-nodeMade (Literal b x) count v = gateMade (Literal b x) (v 0) (v 1)
-nodeMade (Decision x a b) count v = gateMade (Decision x a b) (v 0) (v 1)
-nodeMade Conjunction count v = joined v 0 count
-nodeMade Unknown count v = gateMade Unknown (v 0) (v 1)
+abbrev pub nodeMade : Bool → Gate → ℕ → (ℕ → List Term) → List Term
+nodeMade c (Constant b) count v = gateMade c (Constant b) (v 0) (v 1)
+nodeMade c (Literal b x) count v = gateMade c (Literal b x) (v 0) (v 1)
+nodeMade c (Decision x a b) count v = gateMade c (Decision x a b) (v 0) (v 1)
+nodeMade c Conjunction count v = madeFrom c v 0 count
+nodeMade c Unknown count v = gateMade c Unknown (v 0) (v 1)
 
 -- the place of the last child that is used: the second, or a conjunction's last
 abbrev pub lastPlace : Gate → ℕ → ℕ
@@ -88,11 +90,11 @@ childSize counts p j = getD counts (getD (p .children .nodes) j 0) 0
 abbrev pub childTerms : (Bool → List ℕ) → List ℕ → NodePart → ℕ → List Term
 childTerms s counts p j = termsFrom s (childFrom p j) (childSize counts p j)
 
--- each of a conjunction's lists goes with the joins of those after it, which are no more than the next
-pub record Conjoined (v : ℕ → List Term) (count : ℕ) : Type 0 where
+-- each of a conjunction's lists goes with what is made of those after it, which is no more than the next
+pub record Conjoined (c : Bool) (v : ℕ → List Term) (count : ℕ) : Type 0 where
   pub two : 2 ≤ count
-  pub pairs : (k m : ℕ) → k + suc (suc m) ≡ count → Sides (v k) (joined v (suc k) (suc m))
-  pub grows : (k m : ℕ) → k + suc (suc m) ≡ count → length (joined v (suc k) (suc m)) ≤ length (joined v k (suc (suc m)))
+  pub pairs : (k m : ℕ) → k + suc (suc m) ≡ count → Sides (v k) (madeFrom c v (suc k) (suc m))
+  pub grows : (k m : ℕ) → k + suc (suc m) ≡ count → length (madeFrom c v (suc k) (suc m)) ≤ length (madeFrom c v k (suc (suc m)))
 
 -- what is taken for granted of the terms of a node's children
 abbrev pub NodeGiven : (Bool → List ℕ) → List ℕ → NodePart → Gate → Type 0
@@ -101,7 +103,7 @@ NodeGiven s counts p (Literal b x) = x < width
 NodeGiven s counts p (Decision x a b) =
     DecidedAt x (take (childSize counts p 0) (drop (childFrom p 0) (s true))) (take (childSize counts p 0) (drop (childFrom p 0) (s false)))
     (take (childSize counts p 1) (drop (childFrom p 1) (s true))) (take (childSize counts p 1) (drop (childFrom p 1) (s false)))
-NodeGiven s counts p Conjunction = Conjoined (childTerms s counts p) (p .children .count)
+NodeGiven s counts p Conjunction = Conjoined (p .sign) (childTerms s counts p) (p .children .count)
 NodeGiven s counts p Unknown = Unit {0}
 
 -- the part lies in the buffers, and its children's terms stand below it; a place of no child has the number 0
@@ -116,8 +118,9 @@ pub record Laid (s : Bool → List ℕ) (counts : List ℕ) (p : NodePart) : Typ
   pub words : (j : ℕ) → getD (p .children .nodes) j 0 < length counts
   pub there : (j : ℕ) → childFrom p j + p .capacity ≤ length (s true)
 
--- the part of node i of the table w
-pub record IsPart (w : List ℕ) (i capacity : ℕ) (p : NodePart) : Type 0 where
+-- the part of node i of the table w, or of its negation
+pub record IsPart (c : Bool) (w : List ℕ) (i capacity : ℕ) (p : NodePart) : Type 0 where
+  pub sign-is : p .sign ≡ c
   pub node : record { gate = p .gate; children = p .children } ≡ decodedAt w i
   pub at : p .at ≡ i * capacity
   pub capacity-is : p .capacity ≡ capacity

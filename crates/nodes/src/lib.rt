@@ -7,9 +7,14 @@ ghost use lib.ListN.{length, take, drop, getD};
 ghost use Rattle.masks.specs.Mask.{width};
 ghost use Rattle.table.specs.Layout.{wordsFor, maxChildren};
 ghost use Rattle.table.specs.Node.{maxNodes};
+ghost use Rattle.terms.specs.Joins.{conjunctionTerms};
+ghost use Rattle.terms.specs.Lists.{sort};
+ghost use Rattle.terms.specs.Order.{before};
 ghost use Rattle.terms.specs.Term.{empty, extend, termsOf};
+ghost use Rattle.circuits.specs.Function.{signed};
 ghost use Rattle.lists.specs.Capacity.{maxCapacity};
 ghost use Rattle.insertion.specs.Filled.{bySign, Filled};
+ghost use Rattle.settling.specs.Sides.{SidesAt};
 ghost use Rattle.nodes.specs.Part.{gateMade, nodeMade, Given, NodeGiven, termsFrom, childFrom, childSize, childTerms, Laid};
 ghost use Rattle.nodes.specs.Part.{PartFilled, IsPart, lastPlace, HasPlace};
 use insertion::Kept;
@@ -41,7 +46,41 @@ fn literal(positives: &mut [u64], negatives: &mut [u64], sign: bool, x: u32) -> 
     insertion::insert(positives, negatives, 0, terms::extend(empty, x, sign))
 }
 
-// Makes the terms of a gate in the two slices from two lists: those of two children, or a child's and the joins of those after it.
+// The value, or its negation where the sign is false.
+fn signed(sign: bool, value: bool) -> bool
+    ensures { λ r. ⌜ r ≡ signed sign value ⌝ }
+{
+    if sign {
+        return value;
+    }
+    !value
+}
+
+// Makes the terms of a conjunction without a common variable, or of its negation, from those of two parts.
+fn conjoin(
+    positives: &mut [u64],
+    negatives: &mut [u64],
+    ap: &[u64],
+    an: &[u64],
+    bp: &[u64],
+    bn: &[u64],
+    sign: bool,
+) -> Kept
+    requires { ⌜ SidesAt (now ap) (now an) (now bp) (now bn) × (length (now negatives) ≡ length (now positives)) ⌝ }
+    ensures { λ r. ⌜ Filled
+        (sort before
+        (conjunctionTerms sign (termsOf (now (ap .entry)) (now (an .entry))) (termsOf (now (bp .entry)) (now (bn .entry)))))
+        (bySign (now (positives .entry)) (now (negatives .entry)))
+        (bySign (now (positives .exit)) (now (negatives .exit))) r ⌝ }
+{
+    if sign {
+        return joins::conjunction(positives, negatives, ap, an, bp, bn);
+    }
+    unions::union(positives, negatives, ap, an, bp, bn)
+}
+
+// Makes the terms of a gate, or of its negation, in the two slices from two lists: those of two children, or a child's and what is
+// made of those after it.
 fn make(
     positives: &mut [u64],
     negatives: &mut [u64],
@@ -50,20 +89,21 @@ fn make(
     bp: &[u64],
     bn: &[u64],
     gate: Gate,
+    sign: bool,
 ) -> Kept
     requires { ⌜ Given gate (now ap) (now an) (now bp) (now bn) ⌝ }
     requires { ⌜ (length (now negatives) ≡ length (now positives)) × (length (now an) ≡ length (now ap))
         × (length (now bn) ≡ length (now bp)) ⌝ }
     ensures { λ r. ⌜ Filled
-        (gateMade gate (termsOf (now (ap .entry)) (now (an .entry))) (termsOf (now (bp .entry)) (now (bn .entry))))
+        (gateMade sign gate (termsOf (now (ap .entry)) (now (an .entry))) (termsOf (now (bp .entry)) (now (bn .entry))))
         (bySign (now (positives .entry)) (now (negatives .entry)))
         (bySign (now (positives .exit)) (now (negatives .exit))) r ⌝ }
 {
     match gate {
-        Gate::Constant(value) => constant(positives, negatives, value),
-        Gate::Literal(sign, x) => literal(positives, negatives, sign, x),
+        Gate::Constant(b) => constant(positives, negatives, signed(sign, b)),
+        Gate::Literal(b, x) => literal(positives, negatives, signed(sign, b), x),
         Gate::Decision(x, _, _) => decisions::decision(positives, negatives, ap, an, bp, bn, x),
-        Gate::Conjunction => joins::conjunction(positives, negatives, ap, an, bp, bn),
+        Gate::Conjunction => conjoin(positives, negatives, ap, an, bp, bn, sign),
         Gate::Unknown => Kept::Count(0),
     }
 }
@@ -86,9 +126,10 @@ pub struct Terms {
     pub count: usize,
 }
 
-// A part of the buffers, a gate, and where its two lists of terms stand.
+// A part of the buffers, a gate with its sign, and where its two lists of terms stand.
 pub struct Part {
     pub gate: Gate,
+    pub sign: bool,
     pub at: usize,
     pub capacity: usize,
     pub low: Terms,
@@ -115,7 +156,7 @@ fn fill_part(
         × (part .at + part .capacity ≤ length (now positives)) × (length (now negatives) ≡ length (now positives)) ⌝ }
     requires { ⌜ HasPlace (part .capacity) (now ap) (now an) (now bp) (now bn) ⌝ }
     ensures { λ r. ⌜ PartFilled
-        (gateMade (part .gate) (termsFrom (bySign (now (positives .entry)) (now (negatives .entry))) (part .low .from) (part .low .count))
+        (gateMade (part .sign) (part .gate) (termsFrom (bySign (now (positives .entry)) (now (negatives .entry))) (part .low .from) (part .low .count))
         (termsFrom (bySign (now (positives .entry)) (now (negatives .entry))) (part .high .from) (part .high .count)))
         (part .at) (part .capacity)
         (bySign (now (positives .entry)) (now (negatives .entry)))
@@ -128,6 +169,7 @@ fn fill_part(
     let at = part.at;
     let end = at + part.capacity;
     let gate = part.gate;
+    let sign = part.sign;
     copy(ap, positives, low.from, ca);
     copy(an, negatives, low.from, ca);
     copy(bp, positives, high.from, cb);
@@ -140,12 +182,15 @@ fn fill_part(
         &bp[..cb],
         &bn[..cb],
         gate,
+        sign,
     )
 }
 
-// A node's part of the buffers: its gate and children. The terms of child c stand from entry c * capacity on.
+// A node's part of the buffers: its gate, with the sign false where the negation is listed, and its children. The terms of child c
+// stand from entry c * capacity on.
 pub struct NodePart {
     pub gate: Gate,
+    pub sign: bool,
     pub children: Children,
     pub at: usize,
     pub capacity: usize,
@@ -180,8 +225,9 @@ fn last_place(gate: Gate, count: u32) -> usize
     }
 }
 
-// Makes the terms of a node in its part. Those of a conjunction's last child but one are joined with the last one's, and then each
-// child's with what is there: a list of joins is no longer than the next, so that the part is enough for each. Other gates take one turn.
+// Makes the terms of a node, or of its negation, in its part. Those of a conjunction's last child but one go with the last one's, and
+// then each child's with what is there: what is made is no longer than the next, so that the part is enough for each. Other gates take
+// one turn.
 pub fn fill_node(
     positives: &mut [u64],
     negatives: &mut [u64],
@@ -196,7 +242,7 @@ pub fn fill_node(
         × NodeGiven (bySign (now positives) (now negatives)) (now counts) part (part .gate) ⌝ }
     requires { ⌜ HasPlace (part .capacity) (now ap) (now an) (now bp) (now bn) ⌝ }
     ensures { λ r. ⌜ PartFilled
-        (nodeMade (part .gate) (part .children .count)
+        (nodeMade (part .sign) (part .gate) (part .children .count)
         (childTerms (bySign (now (positives .entry)) (now (negatives .entry))) (now (counts .entry)) part))
         (part .at) (part .capacity) (bySign (now (positives .entry)) (now (negatives .entry)))
         (bySign (now (positives .exit)) (now (negatives .exit))) r ⌝ }
@@ -209,6 +255,7 @@ pub fn fill_node(
         k -= 1;
         let pair = Part {
             gate,
+            sign: part.sign,
             at: part.at,
             capacity: part.capacity,
             low: child_at(counts, part, k),
@@ -225,18 +272,20 @@ pub fn fill_node(
     Kept::Count(high.count)
 }
 
-// The part of node i.
-pub fn part_of(words: &[u32], i: usize, capacity: usize) -> NodePart
+// The part of node i, or of its negation where the sign is false.
+pub fn part_of(words: &[u32], i: usize, capacity: usize, sign: bool) -> NodePart
     requires { ⌜ (i < maxNodes) × (capacity ≤ maxCapacity) × (wordsFor (i + 1) ≤ length (now words)) ⌝ }
-    ensures { λ r. ⌜ IsPart (now (words .entry)) i capacity r ⌝ }
+    ensures { λ r. ⌜ IsPart sign (now (words .entry)) i capacity r ⌝ }
 {
     let node = decode_at(words, i);
     let gate = node.gate;
     let children = node.children;
+    let at = i * capacity;
     NodePart {
         gate,
+        sign,
         children,
-        at: i * capacity,
+        at,
         capacity,
     }
 }

@@ -1,6 +1,7 @@
 // What C and Rust call: each function is thin over one operation. A name is the whole program's, so each begins with the crate's.
 // include/quelbrift.h says what each takes, answers and leaves in each buffer.
 ghost use mathlib.Core.Path.{_≡_};
+ghost use mathlib.Core.Bool.{true, false};
 ghost use lib.ListN.{length};
 ghost use Rattle.table.specs.Outcome.{answered};
 ghost use Rattle.text.specs.AssignmentLine.{readAssignment};
@@ -9,7 +10,7 @@ ghost use Rattle.text.specs.Write.{writeTable};
 ghost use Rattle.circuits.specs.Check.{check};
 ghost use Rattle.queries.specs.Answers.{tested};
 ghost use Rattle.queries.specs.Queries.{evaluation, modelCount, implicantTest, primeTest, reduction};
-ghost use Rattle.listing.specs.Listing.{lent, listTable, viewed};
+ghost use Rattle.listing.specs.Listing.{lent, listTable, listed, viewed};
 ghost use Rattle.quelbrift.specs.Boundary.{version, answerOf, nothing, number, numbers, truth, masks, placed};
 
 mod answer;
@@ -32,7 +33,7 @@ use text::answer::fault_number;
 use text_writer::writer::Written;
 
 // The version of these functions and their answers: QUELBRIFT_VERSION in the header.
-const VERSION: u32 = 2;
+const VERSION: u32 = 3;
 
 #[no_mangle]
 pub extern "C" fn quelbrift_version() -> u32
@@ -165,6 +166,16 @@ pub extern "C" fn quelbrift_reduce(
     }
 }
 
+// The answer of a listing.
+fn list_answer(r: Listing) -> Answer
+    ensures { λ a. ⌜ a ≡ answerOf nothing (listed r) ⌝ }
+{
+    match r {
+        Listing::Listed => done(0, 0),
+        Listing::Refused(why) => refused_by(why),
+    }
+}
+
 // Lists the prime implicants of every node.
 #[no_mangle]
 pub extern "C" fn quelbrift_list(
@@ -176,16 +187,16 @@ pub extern "C" fn quelbrift_list(
     negatives: &mut [u64],
     counts: &mut [u32],
 ) -> Answer
-    ensures { λ r. ⌜ r ≡ answerOf nothing (listTable variables nodes (now (words .entry)) capacity
+    ensures { λ r. ⌜ r ≡ answerOf nothing (listTable true variables nodes (now (words .entry)) capacity
         (lent (now (positives .entry)) (now (negatives .entry)) (now (counts .entry))) .answer) ⌝ }
-    ensures { λ _. ⌜ now (positives .exit) ≡ listTable variables nodes (now (words .entry)) capacity
+    ensures { λ _. ⌜ now (positives .exit) ≡ listTable true variables nodes (now (words .entry)) capacity
         (lent (now (positives .entry)) (now (negatives .entry)) (now (counts .entry))) .after .positives ⌝ }
-    ensures { λ _. ⌜ now (negatives .exit) ≡ listTable variables nodes (now (words .entry)) capacity
+    ensures { λ _. ⌜ now (negatives .exit) ≡ listTable true variables nodes (now (words .entry)) capacity
         (lent (now (positives .entry)) (now (negatives .entry)) (now (counts .entry))) .after .negatives ⌝ }
-    ensures { λ _. ⌜ now (counts .exit) ≡ listTable variables nodes (now (words .entry)) capacity
+    ensures { λ _. ⌜ now (counts .exit) ≡ listTable true variables nodes (now (words .entry)) capacity
         (lent (now (positives .entry)) (now (negatives .entry)) (now (counts .entry))) .after .counts ⌝ }
 {
-    match listing::list(
+    list_answer(listing::list(
         positives,
         negatives,
         counts,
@@ -193,10 +204,38 @@ pub extern "C" fn quelbrift_list(
         variables,
         nodes,
         capacity,
-    ) {
-        Listing::Listed => done(0, 0),
-        Listing::Refused(why) => refused_by(why),
-    }
+    ))
+}
+
+// Lists the prime implicants of every node's negation.
+#[no_mangle]
+pub extern "C" fn quelbrift_list_negation(
+    words: &[u32],
+    variables: u32,
+    nodes: u32,
+    capacity: u32,
+    positives: &mut [u64],
+    negatives: &mut [u64],
+    counts: &mut [u32],
+) -> Answer
+    ensures { λ r. ⌜ r ≡ answerOf nothing (listTable false variables nodes (now (words .entry)) capacity
+        (lent (now (positives .entry)) (now (negatives .entry)) (now (counts .entry))) .answer) ⌝ }
+    ensures { λ _. ⌜ now (positives .exit) ≡ listTable false variables nodes (now (words .entry)) capacity
+        (lent (now (positives .entry)) (now (negatives .entry)) (now (counts .entry))) .after .positives ⌝ }
+    ensures { λ _. ⌜ now (negatives .exit) ≡ listTable false variables nodes (now (words .entry)) capacity
+        (lent (now (positives .entry)) (now (negatives .entry)) (now (counts .entry))) .after .negatives ⌝ }
+    ensures { λ _. ⌜ now (counts .exit) ≡ listTable false variables nodes (now (words .entry)) capacity
+        (lent (now (positives .entry)) (now (negatives .entry)) (now (counts .entry))) .after .counts ⌝ }
+{
+    list_answer(listing::list_negation(
+        positives,
+        negatives,
+        counts,
+        words,
+        variables,
+        nodes,
+        capacity,
+    ))
 }
 
 // Where a node's entries stand in a buffer of the listing, and how many they are; 0 and 0 for the empty part.

@@ -8,14 +8,20 @@ use Rattle.table.specs.Outcome.{Outcome, answered, refused}
 use Rattle.terms.specs.Lists.{all}
 use Rattle.terms.specs.declared.Term.{Term}
 use Rattle.circuits.specs.Check.{check}
+use Rattle.circuits.specs.Function.{signedFunction}
 use Rattle.queries.specs.Queries.{modelCount}
 use Rattle.listing.specs.Listing.{nodePrimes, lent, listTable}
+
+-- prime implicants in order, and whether some capacities suffice
+pub record Primes : Type 0 where
+  pub terms : List Term
+  pub capacities : List (ℕ × Bool)
 
 pub data Known : Type 0 where
   -- it is refused, with this number and node
   fault : ℕ → ℕ → Known
-  -- its prime implicants in order, its model count, and whether some capacities suffice
-  accepts : List Term → ℕ → List (ℕ × Bool) → Known
+  -- its model count, its prime implicants, and those of its negation
+  accepts : ℕ → Primes → Primes → Known
 
 abbrev sameTerms : List Term → List Term → Bool
 sameTerms [] [] = true
@@ -36,17 +42,19 @@ isCount m (answered v) = eqb v m
 isCount m (refused k i) = false
 
 -- a listing with this capacity, into buffers of just the needed length, is done, or refused with 42
-abbrev fits : ℕ → ℕ → List ℕ → ℕ → Bool → Bool
-fits N n w R enough =
+abbrev fits : Bool → ℕ → ℕ → List ℕ → ℕ → Bool → Bool
+fits c N n w R enough =
     let rows : List ℕ = replicate (n * R) 7 in
-    let answer : Outcome (Unit {0}) = listTable N n w R (lent rows rows (replicate n 7)) .answer in
+    let answer : Outcome (Unit {0}) = listTable c N n w R (lent rows rows (replicate n 7)) .answer in
     cond enough (isAccepted answer) (refusedAs 42 0 answer)
+
+-- the last node's prime implicants are these, or its negation's where c is false
+abbrev listsAs : Bool → ℕ → ℕ → List ℕ → Primes → Bool
+listsAs c N n w ps =
+    sameTerms (nodePrimes N (signedFunction c w) (pred n)) (ps .terms) && all (λ r. fits c N n w (r .0) (r .1)) (ps .capacities)
 
 -- of a table of n nodes over N variables; the circuit is the last node
 abbrev pub holds : ℕ → ℕ → List ℕ → Known → Bool
 holds N n w (fault k i) = refusedAs k i (check N n w)
-holds N n w (accepts ts m capacities) =
-    isAccepted (check N n w)
-    && sameTerms (nodePrimes N w (pred n)) ts
-    && isCount m (modelCount N n w)
-    && all (λ c. fits N n w (c .0) (c .1)) capacities
+holds N n w (accepts m ps qs) =
+    isAccepted (check N n w) && isCount m (modelCount N n w) && listsAs true N n w ps && listsAs false N n w qs

@@ -87,7 +87,8 @@ module _ (N : ℕ) where
 
   -- ---- functions to which no variable matters in common
   module _ (f g : ℕ → Bool) (apart : (x : ℕ) → x < N → Free N f x ⊎ Free N g x) where
-    no-common : (t u : Term) → Prime N f t → Prime N g u → (x : ℕ) (b c : Bool) → T (has t b x) → T (has u c x) → ⊥
+    -- no variable has a literal both in a prime implicant of f and in one of g
+    pub no-common : (t u : Term) → Prime N f t → Prime N g u → (x : ℕ) (b c : Bool) → T (has t b x) → T (has u c x) → ⊥
     no-common t u pt pu x b c p q =
         ⊎-elim (λ (h : Free N f x). free-unmentioned N f x h t pt b p)
         (λ (h : Free N g x). free-unmentioned N g x h u pu c q)

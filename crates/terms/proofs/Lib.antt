@@ -6,5 +6,6 @@ pub mod Sorted
 pub mod Listed
 pub mod Built
 pub mod Embeddings
+pub mod Disjunctions
 pub mod Counts
 pub mod Leaves

@@ -1,4 +1,4 @@
--- Terms joined and extended, as Propositions 3 and 5 of the article do it. No public contract rests on these.
+-- Terms joined and extended, as Propositions 3 and 5 of the article do it, and of two lists. No public contract rests on these.
 use Prim.Native.Nat.{ℕ}
 use mathlib.Core.Bool.{Bool, true, false, _&&_, not}
 use mathlib.Core.List.{List, [], _∷_, _++_, map}
@@ -31,6 +31,11 @@ holdsShorter us t = any (λ u. inside u t && ltb (literals u) (literals t)) us
 -- the terms of the list with no shorter one of it inside
 unfoldable pub leastOf : List Term → List Term
 leastOf l = keep (λ t. not (holdsShorter l t)) l
+
+-- the terms of a conjunction without a common variable, from the terms of its two parts: all joins; those of its negation: both lists
+abbrev pub conjunctionTerms : Bool → List Term → List Term → List Term
+conjunctionTerms true a b = joins a b
+conjunctionTerms false a b = a ++ b
 
 -- the terms of a decision by x, from the terms of its sides
 unfoldable pub decisionTerms : ℕ → List Term → List Term → List Term

@@ -12,6 +12,7 @@ use borrow.Author.Needs.{needs}
 use Rattle.table.specs.Layout.{wordsFor}
 use Rattle.table.specs.Node.{maxNodes}
 use Rattle.terms.specs.declared.Term.{Term}
+use Rattle.circuits.specs.Function.{signedFunction}
 use Rattle.circuits.proofs.Accepted.{accepted-e, Accepted}
 use Rattle.circuits.proofs.Largest.{no-more}
 use Rattle.insertion.specs.Filled.{bySign}
@@ -29,7 +30,7 @@ use Rattle.listing.proofs.fill_nodes.Tie as tie
 
 abbrev Inv-loop : tie.InvT-loop
 Inv-loop ps₀ ns₀ cs₀ ap₀ an₀ bp₀ bn₀ words shape i₀ ps ns cs ap an bp bn i =
-    (i ≤ shape .nodes) × State (shape .variables) words (shape .capacity) (shape .nodes) i (bySign ps ns) cs
+    (i ≤ shape .nodes) × State (shape .variables) (signedFunction (shape .sign) words) (shape .capacity) (shape .nodes) i (bySign ps ns) cs
     × ((length ap ≡ length ap₀) × (length an ≡ length an₀) × (length bp ≡ length bp₀) × (length bn ≡ length bn₀))
 
 abbrev μ-loop : tie.MeasureT-loop
@@ -96,12 +97,16 @@ has-place : (a : Loop)
     → HasPlace (start a .args .shape .capacity) (a .loop .ap) (a .loop .an) (a .loop .bp) (a .loop .bn)
 has-place a = let i = a .loop .inv .2 in rw (i .0, i .1, i .2, i .3) (start a .pre .1)
 
+-- the nodes' functions, or their negations
+abbrev listed : Start → ℕ → ℕ → Bool
+listed s = signedFunction (s .args .shape .sign) (s .args .words .now)
+
 -- the prime implicants of a turn's node, and that the nodes below i are listed
 abbrev own : Loop → List Term
-own a = let x = start a .args in nodePrimes (x .shape .variables) (x .words .now) (a .loop .i)
+own a = let s = start a in nodePrimes (s .args .shape .variables) (listed s) (a .loop .i)
 
 abbrev Listed : (s : Start) → ℕ → (Bool → List ℕ) → List ℕ → Type 0
-Listed s i b cs = let h = s .args .shape in State (h .variables) (s .args .words .now) (h .capacity) (h .nodes) i b cs
+Listed s i b cs = let h = s .args .shape in State (h .variables) (listed s) (h .capacity) (h .nodes) i b cs
 
 -- the part was filled with the node's prime implicants
 told : (p : Called) (r : Kept) → p .fill-node .result ≡ r
@@ -116,7 +121,7 @@ told p r e =
     let q = made p in
     let part = q .part-of .result in
     let is = q .part-of .ensures in
-    let own-is = part-made (accepts s) (a .loop .inv .1) (tested p) (s .pre .0 .small) part is in
+    let own-is = part-made (accepts s) (x .shape .sign) (a .loop .inv .1) (tested p) (s .pre .0 .small) part is in
     let l : List Term = own a in
     let r′ : Kept = p .fill-node .result in
     subst (PartFilled l (i * x .shape .capacity) (x .shape .capacity) (now a) (then p)) e
@@ -140,7 +145,7 @@ loop-holds c =
     let x = s .args in
     let h = x .shape in (
       search needs,
-      state-start (h .variables) (x .words .now) (h .capacity) (h .nodes) (bySign (x .positives .now) (x .negatives .now)) (x .counts .now)
+      state-start (h .variables) (listed s) (h .capacity) (h .nodes) (bySign (x .positives .now) (x .negatives .now)) (x .counts .now)
           (s .pre .0 .masks) (s .pre .0 .counts),
       (refl, refl, refl, refl),
     )
@@ -170,7 +175,7 @@ fill-node-requires c κs =
     let is = q .part-of .ensures in
     let place =
     subst (λ (m : ℕ). HasPlace m (a .loop .ap) (a .loop .an) (a .loop .bp) (a .loop .bn)) (sym (is .capacity-is)) (has-place a) in
-    ((part-lies acc st lt (s .pre .0 .small) part is, part-given acc st lt (s .pre .0 .small) part is), place)
+    ((part-lies acc (x .shape .sign) st lt (s .pre .0 .small) part is, part-given acc (x .shape .sign) st lt (s .pre .0 .small) part is), place)
 
 enum-known-c : tie.Need-enum-known-c Inv-loop μ-loop
 enum-known-c c = search needs
@@ -214,8 +219,8 @@ returns c =
     let lt : a .loop .i < x .shape .nodes = tested p in
     let over : x .shape .capacity < length (own a) =
     kept-full (x .shape .capacity) (own a) (told p Full (c .enum-told .given .1) .answer) in
-    tried-full (x .shape .variables) (x .shape .nodes) (x .words .now) (x .shape .capacity) (then p) (a .loop .counts)
-    (lt-of-lt-of-le over (no-more (accepts s) (a .loop .i) lt))
+    tried-full (x .shape .variables) (x .shape .nodes) (listed s) (x .shape .capacity) (then p) (a .loop .counts)
+    (lt-of-lt-of-le over (no-more (accepts s) (x .shape .sign) (a .loop .i) lt))
 
 cast-counts : tie.Need-cast-counts Inv-loop μ-loop
 cast-counts c =
@@ -294,7 +299,7 @@ returns-2 c =
     let s = start a in
     let x = s .args in
     let e : a .loop .i ≡ x .shape .nodes = omega arith in
-    tried-all (x .shape .variables) (x .shape .nodes) (x .words .now) (x .shape .capacity) (now a) (a .loop .counts)
+    tried-all (x .shape .variables) (x .shape .nodes) (listed s) (x .shape .capacity) (now a) (a .loop .counts)
     (nodes-some (accepts s))
     (subst (λ (m : ℕ). Listed s m (now a) (a .loop .counts)) e (a .loop .inv .1))
 

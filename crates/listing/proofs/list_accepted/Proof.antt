@@ -60,7 +60,7 @@ returns c =
     let h = c .before in
     let s = start h in
     let x = s .args in
-    lists-short (x .variables) (x .n) (x .words .now) (x .capacity) (lent (x .positives .now) (x .negatives .now) (x .counts .now)) (s .pre)
+    lists-short (x .sign) (x .variables) (x .n) (x .words .now) (x .capacity) (lent (x .positives .now) (x .negatives .now) (x .counts .now)) (s .pre)
     (tested h true (c .if1 .taken))
 
 mul-total : tie.Need-mul-total
@@ -122,7 +122,7 @@ returns-2 c =
     let s = start (e .before) in
     let x = s .args in
     let l = p .list-exact .last in
-    lists-all (x .variables) (x .n) (x .words .now) (x .capacity) (lent (x .positives .now) (x .negatives .now) (x .counts .now)) (s .pre)
+    lists-all (x .sign) (x .variables) (x .n) (x .words .now) (x .capacity) (lent (x .positives .now) (x .negatives .now) (x .counts .now)) (s .pre)
     (tested (e .before) false (e .if1 .left)) (bySign (l .0) (l .1 .0)) (l .1 .1 .0) (p .list-exact .result) (p .list-exact .ensures)
     (c .if2 .taken)
 
@@ -142,7 +142,7 @@ returns-3 c =
     let s = start (e .before) in
     let x = s .args in
     let l = p .list-exact .last in
-    lists-lack (x .variables) (x .n) (x .words .now) (x .capacity) (lent (x .positives .now) (x .negatives .now) (x .counts .now)) (s .pre)
+    lists-lack (x .sign) (x .variables) (x .n) (x .words .now) (x .capacity) (lent (x .positives .now) (x .negatives .now) (x .counts .now)) (s .pre)
     (tested (e .before) false (e .if1 .left)) (bySign (l .0) (l .1 .0)) (l .1 .1 .0) (p .list-exact .result) (p .list-exact .ensures)
     (c .if2 .left)
 

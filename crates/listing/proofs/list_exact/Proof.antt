@@ -5,6 +5,7 @@ use mathlib.Core.Bool.{Bool, true, false}
 use mathlib.Core.List.{List}
 use lib.ListN.{length}
 use borrow.Author.Needs.{needs}
+use Rattle.circuits.specs.Function.{signedFunction}
 use Rattle.insertion.specs.Filled.{bySign}
 use Rattle.listing.proofs.Answers.{exact-all, exact-none, zeros-of}
 use Rattle.listing.proofs.list_exact.Statement.{statement}
@@ -54,7 +55,7 @@ returns c =
     let f = c .before .before .before .before .before .before .before in
     let x = start (cleared f) .args in
     let h = x .shape in
-    exact-all (h .variables) (h .nodes) (x .words .now) (h .capacity) (buffers f) (f .fill-all .last .1 .1 .0) (f .fill-all .result)
+    exact-all (h .variables) (h .nodes) (signedFunction (h .sign) (x .words .now)) (h .capacity) (buffers f) (f .fill-all .last .1 .1 .0) (f .fill-all .result)
     (f .fill-all .ensures) (c .if1 .taken)
 
 clear-requires-2 : tie.Need-clear-requires-2
@@ -82,7 +83,7 @@ returns-2 c =
     let p : length (f .fill-all .last .0) ≡ h .nodes * h .capacity = f .fill-all .kept .0 ∙ k .clear .kept .0 ∙ s .pre .1 .0 in
     let q : length (f .fill-all .last .1 .0) ≡ h .nodes * h .capacity = f .fill-all .kept .1 .0 ∙ k .clear .kept .1 .0 ∙ s .pre .1 .1 in
     let m : length (f .fill-all .last .1 .1 .0) ≡ h .nodes = f .fill-all .kept .1 .1 .0 ∙ k .clear .kept .1 .1 .0 ∙ s .pre .0 .2 in
-    exact-none (h .variables) (h .nodes) (x .words .now) (h .capacity) (buffers f) (f .fill-all .last .1 .1 .0) (f .fill-all .result)
+    exact-none (h .variables) (h .nodes) (signedFunction (h .sign) (x .words .now)) (h .capacity) (buffers f) (f .fill-all .last .1 .1 .0) (f .fill-all .result)
     (f .fill-all .ensures) (bySign (z .clear2 .last .0) (z .clear2 .last .1 .0)) (z .clear2 .last .1 .1 .0) (e .if1 .left)
     (λ b. elim b [
       | true ↦ zeros-of (h .nodes * h .capacity) (z .clear2 .last .0) (f .fill-all .last .0) (d .0) p

@@ -196,13 +196,13 @@ returns c =
     let p : Bool → List ℕ = bySign (m .make .last .0) (m .make .last .1 .0) in
     let n : ℕ = x .part .at + x .part .capacity - x .part .at in
     let made : List Term =
-    gateMade (x .part .gate) (termsFrom (slices s) (x .part .low .from) (x .part .low .count))
+    gateMade (x .part .sign) (x .part .gate) (termsFrom (slices s) (x .part .low .from) (x .part .low .count))
     (termsFrom (slices s) (x .part .high .from) (x .part .high .count)) in
-    let copied : gateMade (x .part .gate)
+    let copied : gateMade (x .part .sign) (x .part .gate)
     (termsOf (take (x .part .low .count) (copy-ap q .copy .last .0)) (take (x .part .low .count) (copy-an q .copy2 .last .0)))
     (termsOf (take (x .part .high .count) (copy-bp q .copy3 .last .0)) (take (x .part .high .count) (copy-bn q .copy4 .last .0)))
     ≡ made =
-    λ i. gateMade (x .part .gate) (termsOf (copy-ap q .copy .ensures i) (copy-an q .copy2 .ensures i))
+    λ i. gateMade (x .part .sign) (x .part .gate) (termsOf (copy-ap q .copy .ensures i) (copy-an q .copy2 .ensures i))
     (termsOf (copy-bp q .copy3 .ensures i) (copy-bn q .copy4 .ensures i)) in
     let s′ : Bool → List ℕ =
     bySign (take (x .part .at) (slices s true) ++ (p true ++ drop n (drop (x .part .at) (slices s true))))

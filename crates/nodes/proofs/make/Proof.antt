@@ -1,19 +1,17 @@
 -- `nodes::make` meets its contract.
 use Prim.Native.Nat.{ℕ, zero-le}
 use mathlib.Core.Path.{_≡_, sym, subst}
-use mathlib.Core.Bool.{Bool}
-use mathlib.Core.List.{List}
+use mathlib.Core.Bool.{Bool, cond}
+use mathlib.Core.List.{List, [], _∷_}
 use borrow.Author.Needs.{needs}
 use Rattle.table.specs.declared.gates.Gate.{Gate}
 use Rattle.table.specs.declared.gates.Gate.the-variants.{Constant, Literal, Decision, Conjunction, Unknown}
-use Rattle.terms.specs.Term.{termsOf}
-use Rattle.terms.specs.declared.Term.{Term}
+use Rattle.terms.specs.Term.{empty, extend, termsOf}
 use Rattle.insertion.specs.Filled.{bySign, Filled}
 use Rattle.insertion.specs.declared.Kept.{Kept}
 use Rattle.insertion.specs.declared.Kept.the-variants.{Count}
 use Rattle.insertion.proofs.Parts.{even, filled-none}
 use Rattle.nodes.specs.Part.{Given, gateMade}
-use Rattle.nodes.proofs.Both.{both-made}
 use Rattle.nodes.proofs.make.Statement.{statement}
 use Rattle.nodes.proofs.make.Tie as tie
 
@@ -23,7 +21,7 @@ slices s = bySign (s .args .positives .now) (s .args .negatives .now)
 abbrev Made : tie.Start → Gate → (Bool → List ℕ) → Kept → Type 0
 Made s g s′ k =
     let x = s .args in
-    Filled (gateMade g (termsOf (x .ap .now) (x .an .now)) (termsOf (x .bp .now) (x .bn .now))) (slices s) s′ k
+    Filled (gateMade (x .sign) g (termsOf (x .ap .now) (x .an .now)) (termsOf (x .bp .now) (x .bn .now))) (slices s) s′ k
 
 -- what is made for the gate that it is
 made : (s : tie.Start) (g : Gate) (s′ : Bool → List ℕ) (k : Kept) → s .args .gate ≡ g → Made s g s′ k → Made s (s .args .gate) s′ k
@@ -42,15 +40,21 @@ start p = p .before .before .before .before .before .before
 enum-known-gate : tie.Need-enum-known-gate
 enum-known-gate c = search needs
 
+signed-requires : tie.Need-signed-requires
+signed-requires c κs = search needs
+
 constant-requires : tie.Need-constant-requires
 constant-requires c κs = search needs
 
 enum-known-gate-2 : tie.Need-enum-known-gate-2
 enum-known-gate-2 c = search needs
 
+signed-requires-2 : tie.Need-signed-requires-2
+signed-requires-2 c κs = search needs
+
 literal-requires : tie.Need-literal-requires
 literal-requires c κs =
-    let g = c .before .before .before in
+    let g = c .before .before .before .before in
     let s = start (g .before .before) in
     (given s (Literal (g .gate2 .given .0 .0) (g .gate2 .given .0 .1 .0)) (g .gate2 .given .1), s .pre .1 .0)
 
@@ -67,8 +71,11 @@ decision-requires c κs =
 enum-told : tie.Need-enum-told
 enum-told c = search needs
 
-conjunction-requires : tie.Need-conjunction-requires
-conjunction-requires c κs = search needs
+conjoin-requires : tie.Need-conjoin-requires
+conjoin-requires c κs =
+    let g = c .before .before in
+    let s = start (g .before .before) in
+    (given s Conjunction (g .enum-told .given .1), s .pre .1 .0)
 
 enum-told-2 : tie.Need-enum-told-2
 enum-told-2 c = search needs
@@ -82,9 +89,12 @@ same-length-2 c = search needs
 returns : tie.Need-returns
 returns c =
     let i = c .before .before .before .before in
-    let g = i .before .before .before .before in
-    made (start (g .before .before)) (Constant (g .gate .given .0 .0)) (bySign (i .constant .last .0) (i .constant .last .1 .0))
-    (i .constant .result) (g .gate .given .1) (i .constant .ensures)
+    let v = i .before in
+    let g = v .before .before .before .before in
+    let s = start (g .before .before) in
+    let s′ : Bool → List ℕ = bySign (i .constant .last .0) (i .constant .last .1 .0) in
+    made s (Constant (g .gate .given .0 .0)) s′ (i .constant .result) (g .gate .given .1)
+    (subst (λ (b : Bool). Filled (cond b (empty ∷ []) []) (slices s) s′ (i .constant .result)) (v .signed .ensures) (i .constant .ensures))
 
 same-length-3 : tie.Need-same-length-3
 same-length-3 c = search needs
@@ -95,10 +105,14 @@ same-length-4 c = search needs
 returns-2 : tie.Need-returns-2
 returns-2 c =
     let i = c .before .before .before .before in
-    let g = i .before .before .before .before in
+    let v = i .before in
+    let g = v .before .before .before .before in
+    let s = start (g .before .before) in
     let d = g .gate2 .given in
-    made (start (g .before .before)) (Literal (d .0 .0) (d .0 .1 .0)) (bySign (i .literal .last .0) (i .literal .last .1 .0))
-    (i .literal .result) (d .1) (i .literal .ensures)
+    let x : ℕ = d .0 .1 .0 in
+    let s′ : Bool → List ℕ = bySign (i .literal .last .0) (i .literal .last .1 .0) in
+    made s (Literal (d .0 .0) x) s′ (i .literal .result) (d .1)
+    (subst (λ (b : Bool). Filled (extend empty x b ∷ []) (slices s) s′ (i .literal .result)) (v .signed2 .ensures) (i .literal .ensures))
 
 same-length-5 : tie.Need-same-length-5
 same-length-5 c = search needs
@@ -124,13 +138,8 @@ returns-4 : tie.Need-returns-4
 returns-4 c =
     let i = c .before .before .before .before in
     let g = i .before .before .before in
-    let s = start (g .before .before) in
-    let x = s .args in
-    let d = g .enum-told .given in
-    let s′ : Bool → List ℕ = bySign (i .conjunction .last .0) (i .conjunction .last .1 .0) in
-    made s Conjunction s′ (i .conjunction .result) (d .1)
-    (subst (λ (l : List Term). Filled l (slices s) s′ (i .conjunction .result))
-    (both-made (given s Conjunction (d .1) .sides)) (i .conjunction .ensures))
+    made (start (g .before .before)) Conjunction (bySign (i .conjoin .last .0) (i .conjoin .last .1 .0)) (i .conjoin .result)
+    (g .enum-told .given .1) (i .conjoin .ensures)
 
 returns-5 : tie.Need-returns-5
 returns-5 c =
@@ -144,13 +153,15 @@ make-spec =
     tie.close
     (tie.spec
     enum-known-gate
+    signed-requires
     constant-requires
     enum-known-gate-2
+    signed-requires-2
     literal-requires
     enum-known-gate-3
     decision-requires
     enum-told
-    conjunction-requires
+    conjoin-requires
     enum-told-2
     same-length
     same-length-2

@@ -12,18 +12,19 @@ use Rattle.nodes.proofs.part_of.Tie as tie
 decode-at-requires : tie.Need-decode-at-requires
 decode-at-requires c κs = search needs
 
-mul-t7 : tie.Need-mul-t7
-mul-t7 c =
+mul-at : tie.Need-mul-at
+mul-at c =
     let s = c .before .before .before in
     omega (arith, product-le (s .args .i) (s .args .capacity) maxNodes maxCapacity (le-of-lt (s .pre .0)) (s .pre .1))
 
 returns : tie.Need-returns
 returns c =
     record {
+      sign-is = refl;
       node = c .before .decode-at .ensures;
       at = refl;
       capacity-is = refl;
     }
 
 pub part-of-spec : {M : Type 1} → statement M
-part-of-spec = tie.close (tie.spec decode-at-requires mul-t7 returns)
+part-of-spec = tie.close (tie.spec decode-at-requires mul-at returns)

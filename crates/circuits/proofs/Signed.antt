@@ -1,11 +1,10 @@
 -- The function of a node and its negation, by the sign: how it is made of the children's, with no variable in common.
 use Prim.Native.Nat.{ℕ, _<_}
 use mathlib.Core.Path.{_≡_, refl, sym, ap, subst, fun-ext}
-use mathlib.Core.Bool.{Bool, true, false, not, cond}
+use mathlib.Core.Bool.{Bool, true, false}
 use mathlib.Core.Logic.{_⊎_, ⊎-map}
 use mathlib.Core.List.{List, _∷_, List·Memᴰ}
 use lib.Dec.{T}
-use Rattle.masks.specs.Mask.{bit}
 use Rattle.table.specs.Node.{nodeAt, Node, decision}
 use Rattle.terms.proofs.Embeddings.{side-embeds, Embeds}
 use Rattle.terms.proofs.Implicants.{Free}

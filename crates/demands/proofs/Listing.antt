@@ -131,10 +131,11 @@ module _ (s : List ℕ) (R i c : ℕ) where
 
   pub view-part : i < maxNodes → R ≤ maxCapacity → c ≤ R → i * R + c ≤ length s → viewed s R i c ≡ take c (drop (i * R) s)
   view-part hi hR hc hs =
-      let a : T (ltb i maxNodes && leb R maxCapacity) = and-i (ltb i maxNodes) (leb R maxCapacity) (lt→ltb i maxNodes hi) (le→leb R maxCapacity hR) in
-      let b : T (ltb i maxNodes && leb R maxCapacity && leb c R) = and-i (ltb i maxNodes && leb R maxCapacity) (leb c R) a (le→leb c R hc) in
-      let t : T inside =
-      and-i (ltb i maxNodes && leb R maxCapacity && leb c R) (leb (i * R + c) (length s)) b (le→leb (i * R + c) (length s) hs) in
+      let p : Bool = ltb i maxNodes in
+      let q : Bool = leb R maxCapacity in
+      let a : T (p && q) = and-i p q (lt→ltb i maxNodes hi) (le→leb R maxCapacity hR) in
+      let b : T (p && q && leb c R) = and-i (p && q) (leb c R) a (le→leb c R hc) in
+      let t : T inside = and-i (p && q && leb c R) (leb (i * R + c) (length s)) b (le→leb (i * R + c) (length s) hs) in
       ap (λ (z : Bool). cond z (take c (drop (i * R) s)) []) (is-true inside t)
 
   range : T inside → (i < maxNodes) × (R ≤ maxCapacity) × (c ≤ R) × (i * R + c ≤ length s)

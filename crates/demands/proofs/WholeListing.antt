@@ -41,14 +41,13 @@ module _ (c : Bool) (N n : ℕ) (w : List ℕ) (R : ℕ) (lend : Lent) (asked : 
 
   enough : T (suffices n R lend)
   enough =
-      let a : T (leb R maxCapacity) = le→leb R maxCapacity (asked .capacity) in
-      let p : T (leb (n * R) (length (lend .positives))) = le→leb (n * R) (length (lend .positives)) (asked .positives) in
-      let q : T (leb (n * R) (length (lend .negatives))) = le→leb (n * R) (length (lend .negatives)) (asked .negatives) in
-      let both : T (leb R maxCapacity && leb (n * R) (length (lend .positives))) = and-i (leb R maxCapacity) (leb (n * R) (length (lend .positives))) a p in
-      let all-three : T (leb R maxCapacity && leb (n * R) (length (lend .positives)) && leb (n * R) (length (lend .negatives))) =
-      and-i (leb R maxCapacity && leb (n * R) (length (lend .positives))) (leb (n * R) (length (lend .negatives))) both q in
-      and-i (leb R maxCapacity && leb (n * R) (length (lend .positives)) && leb (n * R) (length (lend .negatives))) (leb n (length (lend .counts))) all-three
-      (le→leb n (length (lend .counts)) (asked .counts))
+      let small : Bool = leb R maxCapacity in
+      let p : Bool = leb (n * R) (length (lend .positives)) in
+      let q : Bool = leb (n * R) (length (lend .negatives)) in
+      let both : T (small && p) =
+      and-i small p (le→leb R maxCapacity (asked .capacity)) (le→leb (n * R) (length (lend .positives)) (asked .positives)) in
+      let all-three : T (small && p && q) = and-i (small && p) q both (le→leb (n * R) (length (lend .negatives)) (asked .negatives)) in
+      and-i (small && p && q) (leb n (length (lend .counts))) all-three (le→leb n (length (lend .counts)) (asked .counts))
 
   -- the answer and the buffers, by whether the last node's terms fit
   out : (b : Bool) → exceeds N n F R ≡ b → result ≡ cond b (cleared n R lend) (filled N n F R lend)
@@ -102,7 +101,8 @@ module _ (c : Bool) (N n : ℕ) (w : List ℕ) (R : ℕ) (lend : Lent) (asked : 
       zero-past : (j : ℕ) → getD (result .after .counts) i 0 ≤ j → j < R → (b : Bool) → getD (rows b) (i * R + j) 0 ≡ 0
       zero-past j lo hi b =
           ap (λ (z : List ℕ). getD z (i * R + j) 0) (buffers b)
-          ∙ unused-back N F R n i b (drop (n * R) (bySign (lend .positives) (lend .negatives) b)) fit l j (le-trans (le-of-eq (sym (counted i l))) lo) hi
+          ∙ unused-back N F R n i b (drop (n * R) (bySign (lend .positives) (lend .negatives) b)) fit l j
+          (le-trans (le-of-eq (sym (counted i l))) lo) hi
 
       node : NodeListed N n F R (result .after) i
       unfolding rows

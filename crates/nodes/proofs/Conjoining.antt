@@ -15,7 +15,7 @@ use Rattle.insertion.specs.declared.Kept.{Kept}
 use Rattle.insertion.specs.declared.Kept.the-variants.{Count, Full}
 use Rattle.insertion.proofs.Parts.{terms-masks, length-masks, kept-count, kept-full, count-kept, full-kept}
 use Rattle.settling.specs.Sides.{Sides, SidesAt}
-use Rattle.nodes.specs.Part.{gateMade, termsFrom, laidAt, madeFrom, childFrom, childSize, childTerms, PartFilled, Conjoined, Laid}
+use Rattle.nodes.specs.Part.{gateMade, termsFrom, termsAt, laidAt, madeFrom, childFrom, childSize, childTerms, PartFilled, Conjoined, Laid}
 use Rattle.nodes.specs.declared.NodePart.{NodePart}
 use Rattle.nodes.specs.declared.Terms.{Terms}
 use Rattle.nodes.proofs.Parts.{length-part, laid-nil, laid-front, laid-back, length-laid, laid-over, same-before}
@@ -39,7 +39,7 @@ module _ (s : Bool → List ℕ) (counts : List ℕ) (p : NodePart) where
     pub list : List Term
     pub over : (b : Bool) → s′ b ≡ laidAt (p .at) (p .capacity) (masksOf b list) (s b)
     pub short : length list ≤ length (after k)
-    pub terms : termsFrom s′ (high .from) (high .count) ≡ after k
+    pub terms : termsAt s′ high ≡ after k
     pub size : high .count ≡ length (after k)
     pub room : high .count ≤ p .capacity
     pub there : high .from + p .capacity ≤ length (s true)
@@ -111,7 +111,8 @@ module _ (s : Bool → List ℕ) (counts : List ℕ) (p : NodePart) (lies : Laid
     more-after =
         let d : count - k ≡ suc (suc (count - suc (suc k))) = omega arith in
         subst (λ (l : List Term). length l ≤ length (after s counts p k)) (sym after-next)
-        (subst (λ (l : List Term). length (madeFrom (p .sign) v (suc k) (suc left)) ≤ length l) (sym (ap (madeFrom (p .sign) v k) d)) (given .grows k left two))
+        (subst (λ (l : List Term). length (madeFrom (p .sign) v (suc k) (suc left)) ≤ length l)
+        (sym (ap (madeFrom (p .sign) v k) d)) (given .grows k left two))
 
   most-after : (k : ℕ) → k < count → length (after s counts p k) ≤ length (after s counts p 0)
   most-after zero l = le-refl (length (after s counts p 0))
@@ -151,7 +152,7 @@ module _ (s : Bool → List ℕ) (counts : List ℕ) (p : NodePart) (lies : Laid
     high-there = let h = j .there in omega (arith, kept-long true)
 
     low-terms : (low : Terms) → low .from ≡ childFrom p k → low .count ≡ childSize counts p k
-        → termsFrom s′ (low .from) (low .count) ≡ v k
+        → termsAt s′ low ≡ v k
     low-terms low f c = ap₂ (termsFrom s′) f c ∙ ap₂ termsOf (child-same true) (child-same false)
 
     pub pair-given : (low : Terms) → low .from ≡ childFrom p k → low .count ≡ childSize counts p k
@@ -173,13 +174,13 @@ module _ (s : Bool → List ℕ) (counts : List ℕ) (p : NodePart) (lies : Laid
           even-high = hf ∙ sym ht;
           few-low = omega arith;
           few-high = omega arith;
-          sides = subst (λ (a : List Term). Sides a (termsFrom s′ (high .from) (high .count))) (sym (low-terms low f c))
+          sides = subst (λ (a : List Term). Sides a (termsAt s′ high)) (sym (low-terms low f c))
               (subst (Sides (v k)) (sym (j .terms)) (pair k (j .some)));
         }
 
     -- what was made
     module _ (low : Terms) (f : low .from ≡ childFrom p k) (c : low .count ≡ childSize counts p k) (s″ : Bool → List ℕ) (r : Kept)
-        (made : PartFilled (gateMade (p .sign) Conjunction (termsFrom s′ (low .from) (low .count)) (termsFrom s′ (high .from) (high .count)))
+        (made : PartFilled (gateMade (p .sign) Conjunction (termsAt s′ low) (termsAt s′ high))
         (p .at) (p .capacity) s′ s″ r) where
       filled : PartFilled (after s counts p k) (p .at) (p .capacity) s′ s″ r
       filled =

@@ -12,7 +12,7 @@ use Rattle.masks.proofs.Tests.{and-l, and-r, not-not}
 use Rattle.table.specs.Gate.{gate, gateOf, decodedAt, childList}
 use Rattle.table.specs.Layout.{maxChildren, wordsAt}
 use Rattle.table.specs.Node.{kind, decode, nodeAt, Kind, constantKind, literalKind, decisionKind, conjunctionKind, unknownKind}
-use Rattle.table.specs.Node.{constant, literal, decision, conjunction, unknown}
+use Rattle.table.specs.Node.{literal, decision, conjunction, unknown}
 use Rattle.table.specs.Words.{countFits, wellFormed, malformed}
 use Rattle.table.specs.declared.gates.Decoded.{Decoded}
 use Rattle.table.specs.declared.gates.Gate.{Gate}

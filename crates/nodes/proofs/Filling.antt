@@ -13,7 +13,7 @@ use Rattle.insertion.specs.Filled.{masksOf}
 use Rattle.insertion.specs.declared.Kept.{Kept}
 use Rattle.insertion.specs.declared.Kept.the-variants.{Count, Full}
 use Rattle.insertion.proofs.Parts.{length-masks, kept-count}
-use Rattle.nodes.specs.Part.{termsFrom, childFrom, childSize, childTerms, PartFilled, Conjoined, Laid}
+use Rattle.nodes.specs.Part.{termsFrom, termsAt, childFrom, childSize, childTerms, PartFilled, Conjoined, Laid}
 use Rattle.nodes.specs.Part.{Given, NodeGiven, gateMade, nodeMade, lastPlace}
 use Rattle.nodes.specs.declared.NodePart.{NodePart}
 use Rattle.nodes.specs.declared.Terms.{Terms}
@@ -58,7 +58,8 @@ module _ (s : Bool → List ℕ) (counts : List ℕ) (p : NodePart) where
         → PartFilled (nodeMade (p .sign) Conjunction (p .children .count) (childTerms s counts p)) (p .at) (p .capacity) s s′ r
         → PartFilled made (p .at) (p .capacity) s s′ r
     all-joined e s′ r =
-        subst (λ (g : Gate). PartFilled (nodeMade (p .sign) g (p .children .count) (childTerms s counts p)) (p .at) (p .capacity) s s′ r) (sym e)
+        subst (λ (g : Gate). PartFilled (nodeMade (p .sign) g (p .children .count) (childTerms s counts p)) (p .at) (p .capacity) s s′ r)
+        (sym e)
 
     inside : (b : Bool) → p .at + p .capacity ≤ length (s b)
     inside true = lies .inside
@@ -182,26 +183,27 @@ module _ (s : Bool → List ℕ) (counts : List ℕ) (p : NodePart) where
       turn-given (inr (inr h)) = absurd (let z = h .0 in omega arith)
 
       module _ (s″ : Bool → List ℕ) (r : Kept)
-          (filled : PartFilled (gateMade (p .sign) (p .gate) (termsFrom s′ (low .from) (low .count)) (termsFrom s′ (high .from) (high .count)))
+          (filled : PartFilled (gateMade (p .sign) (p .gate) (termsAt s′ low) (termsAt s′ high))
           (p .at) (p .capacity) s′ s″ r) where
         joined-here : p .gate ≡ Conjunction
-            → PartFilled (gateMade (p .sign) Conjunction (termsFrom s′ (low .from) (low .count)) (termsFrom s′ (high .from) (high .count)))
+            → PartFilled (gateMade (p .sign) Conjunction (termsAt s′ low) (termsAt s′ high))
             (p .at) (p .capacity) s′ s″ r
         joined-here e =
-            subst (λ (g : Gate). PartFilled (gateMade (p .sign) g (termsFrom s′ (low .from) (low .count)) (termsFrom s′ (high .from) (high .count)))
+            subst (λ (g : Gate). PartFilled (gateMade (p .sign) g (termsAt s′ low) (termsAt s′ high))
             (p .at) (p .capacity) s′ s″ r) e filled
 
         all-made : First (suc k) s′ high → PartFilled made (p .at) (p .capacity) s s″ r
         all-made h =
             let z : k ≡ 0 = let q = h .1 in omega arith in
-            let low-terms : termsFrom s′ (low .from) (low .count) ≡ childTerms s counts p 0 =
+            let low-terms : termsAt s′ low ≡ childTerms s counts p 0 =
             ap₂ (termsFrom s′) (f ∙ ap (childFrom p) z) (c ∙ ap (childSize counts p) z)
             ∙ ap (λ (t : Bool → List ℕ). termsFrom t (childFrom p 0) (childSize counts p 0)) (h .2) in
-            let high-terms : termsFrom s′ (high .from) (high .count) ≡ childTerms s counts p 1 =
+            let high-terms : termsAt s′ high ≡ childTerms s counts p 1 =
             ap₂ (termsFrom s′) (h .3) (h .4) ∙ ap (λ (t : Bool → List ℕ). termsFrom t (childFrom p 1) (childSize counts p 1)) (h .2) in
             subst (λ (t : Bool → List ℕ). PartFilled made (p .at) (p .capacity) t s″ r) (h .2)
             (subst (λ (l : List Term). PartFilled l (p .at) (p .capacity) s′ s″ r)
-            (ap₂ (gateMade (p .sign) (p .gate)) low-terms high-terms ∙ h .0 .made (p .sign) (p .children .count) (childTerms s counts p)) filled)
+            (ap₂ (gateMade (p .sign) (p .gate)) low-terms high-terms
+            ∙ h .0 .made (p .sign) (p .children .count) (childTerms s counts p)) filled)
 
         pub filling-more : Filling (suc k) s′ high → (n : ℕ) → r ≡ Count n → Filling k s″ (record { from = p .at; count = n })
         filling-more (inl (e, j)) n q =

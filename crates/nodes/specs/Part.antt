@@ -21,6 +21,7 @@ use Rattle.insertion.specs.Filled.{masksOf, laid, keptOf}
 use Rattle.insertion.specs.declared.Kept.{Kept}
 use Rattle.settling.specs.Sides.{Sides, SidesAt, DecidedAt}
 use Rattle.nodes.specs.declared.NodePart.{NodePart}
+use Rattle.nodes.specs.declared.Terms.{Terms}
 
 -- ---- two lists
 -- what is made of a gate, or of its negation where the sign is false, from two lists: the terms of two children, or a child's and
@@ -47,6 +48,10 @@ HasPlace capacity ap an bp bn = (capacity ≤ length ap) × (capacity ≤ length
 -- the count terms that stand from `at` on
 abbrev pub termsFrom : (Bool → List ℕ) → ℕ → ℕ → List Term
 termsFrom s at count = termsOf (take count (drop at (s true))) (take count (drop at (s false)))
+
+-- the terms of which a place and a number are given
+abbrev pub termsAt : (Bool → List ℕ) → Terms → List Term
+termsAt s t = termsFrom s (t .from) (t .count)
 
 -- s with l over the front of its part of capacity entries from `at` on
 abbrev pub laidAt : ℕ → ℕ → List ℕ → List ℕ → List ℕ

@@ -15,7 +15,7 @@ ghost use Rattle.circuits.specs.Function.{signed};
 ghost use Rattle.lists.specs.Capacity.{maxCapacity};
 ghost use Rattle.insertion.specs.Filled.{bySign, Filled};
 ghost use Rattle.settling.specs.Sides.{SidesAt};
-ghost use Rattle.nodes.specs.Part.{gateMade, nodeMade, Given, NodeGiven, termsFrom, childFrom, childSize, childTerms, Laid};
+ghost use Rattle.nodes.specs.Part.{gateMade, nodeMade, Given, NodeGiven, termsAt, childFrom, childSize, childTerms, Laid};
 ghost use Rattle.nodes.specs.Part.{PartFilled, IsPart, lastPlace, HasPlace};
 use insertion::Kept;
 use table::gates::Gate;
@@ -156,8 +156,8 @@ fn fill_part(
         × (part .at + part .capacity ≤ length (now positives)) × (length (now negatives) ≡ length (now positives)) ⌝ }
     requires { ⌜ HasPlace (part .capacity) (now ap) (now an) (now bp) (now bn) ⌝ }
     ensures { λ r. ⌜ PartFilled
-        (gateMade (part .sign) (part .gate) (termsFrom (bySign (now (positives .entry)) (now (negatives .entry))) (part .low .from) (part .low .count))
-        (termsFrom (bySign (now (positives .entry)) (now (negatives .entry))) (part .high .from) (part .high .count)))
+        (gateMade (part .sign) (part .gate) (termsAt (bySign (now (positives .entry)) (now (negatives .entry))) (part .low))
+        (termsAt (bySign (now (positives .entry)) (now (negatives .entry))) (part .high)))
         (part .at) (part .capacity)
         (bySign (now (positives .entry)) (now (negatives .entry)))
         (bySign (now (positives .exit)) (now (negatives .exit))) r ⌝ }

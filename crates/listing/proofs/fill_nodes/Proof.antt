@@ -175,7 +175,8 @@ fill-node-requires c κs =
     let is = q .part-of .ensures in
     let place =
     subst (λ (m : ℕ). HasPlace m (a .loop .ap) (a .loop .an) (a .loop .bp) (a .loop .bn)) (sym (is .capacity-is)) (has-place a) in
-    ((part-lies acc (x .shape .sign) st lt (s .pre .0 .small) part is, part-given acc (x .shape .sign) st lt (s .pre .0 .small) part is), place)
+    let sign : Bool = x .shape .sign in
+    ((part-lies acc sign st lt (s .pre .0 .small) part is, part-given acc sign st lt (s .pre .0 .small) part is), place)
 
 enum-known-c : tie.Need-enum-known-c Inv-loop μ-loop
 enum-known-c c = search needs

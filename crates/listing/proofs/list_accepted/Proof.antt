@@ -11,7 +11,7 @@ use Rattle.table.specs.Node.{maxNodes}
 use Rattle.circuits.proofs.Accepted.{accepted-e, Accepted}
 use Rattle.lists.specs.Capacity.{maxCapacity}
 use Rattle.insertion.specs.Filled.{bySign}
-use Rattle.listing.specs.Listing.{lent, suffices}
+use Rattle.listing.specs.Listing.{lent, suffices, Lent}
 use Rattle.listing.proofs.Answers.{lists-short, lists-all, lists-lack}
 use Rattle.listing.proofs.Bounds.{nodes-le, enough, not-flip, Enough}
 use Rattle.listing.proofs.list_accepted.Statement.{statement}
@@ -19,6 +19,10 @@ use Rattle.listing.proofs.list_accepted.Tie as tie
 
 abbrev start : tie.After-is-enough → tie.Start
 start h = h .before .before .before .before .before .before .before .before
+
+-- the lent buffers
+abbrev buffers : tie.Start → Lent
+buffers s = lent (s .args .positives .now) (s .args .negatives .now) (s .args .counts .now)
 
 accepts : (s : tie.Start) → Accepted (s .args .variables) (s .args .n) (s .args .words .now)
 accepts s = accepted-e (s .args .variables) (s .args .n) (s .args .words .now) (s .pre)
@@ -28,20 +32,16 @@ most s = nodes-le (accepts s)
 
 -- what the test of the buffers said
 tested : (h : tie.After-is-enough) (b : Bool) → not (h .is-enough .result) ≡ b
-    → let x = start h .args in
-    suffices (x .n) (x .capacity) (lent (x .positives .now) (x .negatives .now) (x .counts .now)) ≡ not b
+    → let s = start h in suffices (s .args .n) (s .args .capacity) (buffers s) ≡ not b
 tested h b e = sym (h .is-enough .ensures) ∙ not-flip (h .is-enough .result) b e
 
 abbrev large : tie.Else1 → Type 0
-large e =
-    let x = start (e .before) .args in
-    Enough (x .n) (x .capacity) (lent (x .positives .now) (x .negatives .now) (x .counts .now))
+large e = let s = start (e .before) in Enough (s .args .n) (s .args .capacity) (buffers s)
 
 is-large : (e : tie.Else1) → large e
 is-large e =
-    let x = start (e .before) .args in
-    enough (x .n) (x .capacity) (lent (x .positives .now) (x .negatives .now) (x .counts .now))
-    (along (sym (tested (e .before) false (e .if1 .left))) tt)
+    let s = start (e .before) in
+    enough (s .args .n) (s .args .capacity) (buffers s) (along (sym (tested (e .before) false (e .if1 .left))) tt)
 
 is-enough-requires : tie.Need-is-enough-requires
 is-enough-requires c κs = most (c .before .before .before .before .before .before .before)
@@ -60,7 +60,7 @@ returns c =
     let h = c .before in
     let s = start h in
     let x = s .args in
-    lists-short (x .sign) (x .variables) (x .n) (x .words .now) (x .capacity) (lent (x .positives .now) (x .negatives .now) (x .counts .now)) (s .pre)
+    lists-short (x .sign) (x .variables) (x .n) (x .words .now) (x .capacity) (buffers s) (s .pre)
     (tested h true (c .if1 .taken))
 
 mul-total : tie.Need-mul-total
@@ -122,7 +122,7 @@ returns-2 c =
     let s = start (e .before) in
     let x = s .args in
     let l = p .list-exact .last in
-    lists-all (x .sign) (x .variables) (x .n) (x .words .now) (x .capacity) (lent (x .positives .now) (x .negatives .now) (x .counts .now)) (s .pre)
+    lists-all (x .sign) (x .variables) (x .n) (x .words .now) (x .capacity) (buffers s) (s .pre)
     (tested (e .before) false (e .if1 .left)) (bySign (l .0) (l .1 .0)) (l .1 .1 .0) (p .list-exact .result) (p .list-exact .ensures)
     (c .if2 .taken)
 
@@ -142,7 +142,7 @@ returns-3 c =
     let s = start (e .before) in
     let x = s .args in
     let l = p .list-exact .last in
-    lists-lack (x .sign) (x .variables) (x .n) (x .words .now) (x .capacity) (lent (x .positives .now) (x .negatives .now) (x .counts .now)) (s .pre)
+    lists-lack (x .sign) (x .variables) (x .n) (x .words .now) (x .capacity) (buffers s) (s .pre)
     (tested (e .before) false (e .if1 .left)) (bySign (l .0) (l .1 .0)) (l .1 .1 .0) (p .list-exact .result) (p .list-exact .ensures)
     (c .if2 .left)
 

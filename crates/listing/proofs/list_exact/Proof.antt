@@ -18,6 +18,10 @@ start k = k .before .before .before .before .before .before .before .before
 abbrev cleared : tie.After-fill-all → tie.After-clear
 cleared f = f .before .before .before .before .before .before .before .before .before .before
 
+-- the nodes' functions, or their negations
+abbrev listed : tie.Start → ℕ → ℕ → Bool
+listed s = signedFunction (s .args .shape .sign) (s .args .words .now)
+
 abbrev buffers : tie.After-fill-all → Bool → List ℕ
 buffers f = bySign (f .fill-all .last .0) (f .fill-all .last .1 .0)
 
@@ -53,9 +57,9 @@ same-length-3 c = search needs
 returns : tie.Need-returns
 returns c =
     let f = c .before .before .before .before .before .before .before in
-    let x = start (cleared f) .args in
-    let h = x .shape in
-    exact-all (h .variables) (h .nodes) (signedFunction (h .sign) (x .words .now)) (h .capacity) (buffers f) (f .fill-all .last .1 .1 .0) (f .fill-all .result)
+    let s = start (cleared f) in
+    let h = s .args .shape in
+    exact-all (h .variables) (h .nodes) (listed s) (h .capacity) (buffers f) (f .fill-all .last .1 .1 .0) (f .fill-all .result)
     (f .fill-all .ensures) (c .if1 .taken)
 
 clear-requires-2 : tie.Need-clear-requires-2
@@ -83,7 +87,7 @@ returns-2 c =
     let p : length (f .fill-all .last .0) ≡ h .nodes * h .capacity = f .fill-all .kept .0 ∙ k .clear .kept .0 ∙ s .pre .1 .0 in
     let q : length (f .fill-all .last .1 .0) ≡ h .nodes * h .capacity = f .fill-all .kept .1 .0 ∙ k .clear .kept .1 .0 ∙ s .pre .1 .1 in
     let m : length (f .fill-all .last .1 .1 .0) ≡ h .nodes = f .fill-all .kept .1 .1 .0 ∙ k .clear .kept .1 .1 .0 ∙ s .pre .0 .2 in
-    exact-none (h .variables) (h .nodes) (signedFunction (h .sign) (x .words .now)) (h .capacity) (buffers f) (f .fill-all .last .1 .1 .0) (f .fill-all .result)
+    exact-none (h .variables) (h .nodes) (listed s) (h .capacity) (buffers f) (f .fill-all .last .1 .1 .0) (f .fill-all .result)
     (f .fill-all .ensures) (bySign (z .clear2 .last .0) (z .clear2 .last .1 .0)) (z .clear2 .last .1 .1 .0) (e .if1 .left)
     (λ b. elim b [
       | true ↦ zeros-of (h .nodes * h .capacity) (z .clear2 .last .0) (f .fill-all .last .0) (d .0) p

@@ -26,4 +26,5 @@ returns c =
     (c .list-answer .ensures ∙ ap (answerOf nothing) (e .answer), (e .positives, (e .negatives, e .counts)))
 
 pub quelbrift-list-negation-spec : {M : Type 1} → statement M
-quelbrift-list-negation-spec = tie.close (tie.spec list-negation-requires list-answer-requires same-length same-length-2 same-length-3 returns)
+quelbrift-list-negation-spec =
+    tie.close (tie.spec list-negation-requires list-answer-requires same-length same-length-2 same-length-3 returns)

@@ -16,7 +16,7 @@ use Rattle.table.proofs.Encoding.{node-children, child-word}
 use Rattle.circuits.specs.Function.{signedFunction}
 use Rattle.circuits.proofs.Accepted.{Accepted}
 use Rattle.lists.specs.Capacity.{maxCapacity}
-use Rattle.nodes.specs.Part.{nodeMade, NodeGiven, childFrom, childSize, childTerms, termsFrom, Laid, IsPart}
+use Rattle.nodes.specs.Part.{nodeMade, NodeGiven, places, childFrom, childSize, childTerms, termsFrom, Laid, IsPart}
 use Rattle.nodes.specs.declared.NodePart.{NodePart}
 use Rattle.nodes.proofs.Exact.{given, made-exact}
 use Rattle.listing.specs.Listing.{nodePrimes}
@@ -86,7 +86,7 @@ module _ {N n : ℕ} {w : List ℕ} (acc : Accepted N n w) (c : Bool) {R i : ℕ
         let d : ℕ = getD (p .children .nodes) j 0 in
         ap (λ (from : ℕ). termsFrom s from (childSize cs p j)) (from-is j) ∙ terms-back st lt d (children .each j l) ∙ sym (signs d)
 
-    pub part-given : NodeGiven s cs p (p .gate)
+    pub part-given : NodeGiven (p .sign) (p .gate) (childTerms s cs p) (places (p .gate) (p .children .count))
     part-given = given acc i lt s cs p (is .node) part-lies listed
 
     pub part-made : nodeMade (p .sign) (p .gate) (p .children .count) (childTerms s cs p) ≡ nodePrimes N (signedFunction c w) i

@@ -1,5 +1,4 @@
 pub mod Parts
 pub mod Both
-pub mod Conjoining
-pub mod Filling
+pub mod Making
 pub mod Exact

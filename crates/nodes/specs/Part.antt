@@ -2,7 +2,8 @@
 use Prim.Native.Nat.{ℕ, zero, suc, _+_, _-_, _*_, _≤_, _<_}
 use mathlib.Core.Path.{_≡_}
 use mathlib.Core.Bool.{Bool, true, false, cond}
-use mathlib.Core.List.{List, [], _∷_, _++_}
+use mathlib.Core.List.{List, [], _∷_, _++_, List·Memᴰ}
+use lib.Dec.{T}
 use lib.ListN.{length, take, drop, getD}
 use Rattle.masks.specs.Mask.{width}
 use Rattle.table.specs.Gate.{decodedAt}
@@ -13,7 +14,7 @@ use Rattle.table.specs.declared.gates.Gate.the-variants.{Constant, Literal, Dec
 use Rattle.terms.specs.Joins.{conjunctionTerms, decisionTerms}
 use Rattle.terms.specs.Lists.{sort}
 use Rattle.terms.specs.Order.{before}
-use Rattle.terms.specs.Term.{empty, extend, termsOf}
+use Rattle.terms.specs.Term.{empty, has, extend, termsOf}
 use Rattle.terms.specs.declared.Term.{Term}
 use Rattle.circuits.specs.Function.{signed}
 use Rattle.lists.specs.Capacity.{maxCapacity}
@@ -33,7 +34,22 @@ gateMade c (Decision x a b) l k = sort before (decisionTerms x l k)
 gateMade c Conjunction l k = sort before (conjunctionTerms c l k)
 gateMade c Unknown l k = []
 
--- what is taken for granted of these terms: they are prime implicants in order, a decision's variable is in none of them
+-- two lists of prime implicants in order, and x is in none of their terms
+pub record Decided (x : ℕ) (a b : List Term) : Type 0 where
+  pub sides : Sides a b
+  pub below : x < sides .variables
+  pub not-low : (t : Term) → List·Memᴰ t a → (c : Bool) → T (has t c x) → ⊥
+  pub not-high : (t : Term) → List·Memᴰ t b → (c : Bool) → T (has t c x) → ⊥
+
+-- what is taken for granted of two lists
+abbrev pub PairGiven : Gate → List Term → List Term → Type 0
+PairGiven (Constant c) a b = Unit {0}
+PairGiven (Literal c x) a b = x < width
+PairGiven (Decision x l h) a b = Decided x a b
+PairGiven Conjunction a b = Sides a b
+PairGiven Unknown a b = Unit {0}
+
+-- the same of two lists as they stand in slices
 abbrev pub Given : Gate → List ℕ → List ℕ → List ℕ → List ℕ → Type 0
 Given (Constant b) ap an bp bn = Unit {0}
 Given (Literal b x) ap an bp bn = x < width
@@ -63,27 +79,23 @@ pub record PartFilled (l : List Term) (at capacity : ℕ) (s s′ : Bool → Lis
   pub masks : length l ≤ capacity → (b : Bool) → s′ b ≡ laidAt at capacity (masksOf b l) (s b)
 
 -- ---- up to eight lists, v j being the terms of the child at place j
--- a conjunction of m children from place j on, at least one: the last one's list, and then each with what is made of those after it
-abbrev pub madeFrom : Bool → (ℕ → List Term) → ℕ → ℕ → List Term
-madeFrom c v j zero = []
-madeFrom c v j (suc zero) = v j
-madeFrom c v j (suc (suc m)) = gateMade c Conjunction (v j) (madeFrom c v (suc j) (suc m))
+-- how many places of children are used: two, or as many as a conjunction has; the lists of a leaf's two are not looked at
+abbrev pub places : Gate → ℕ → ℕ
+places (Constant b) count = 2
+places (Literal b x) count = 2
+places (Decision x a b) count = 2
+places Conjunction count = count
+places Unknown count = 2
+
+-- what is made of m places from j on, at least one: the last one's list, and then each with what is made of those after it
+abbrev pub madeFrom : Bool → Gate → (ℕ → List Term) → ℕ → ℕ → List Term
+madeFrom c g v j zero = []
+madeFrom c g v j (suc zero) = v j
+madeFrom c g v j (suc (suc m)) = gateMade c g (v j) (madeFrom c g v (suc j) (suc m))
 
 -- what is made of a gate from the terms of its children; count is the number of a conjunction's
 abbrev pub nodeMade : Bool → Gate → ℕ → (ℕ → List Term) → List Term
-nodeMade c (Constant b) count v = gateMade c (Constant b) (v 0) (v 1)
-nodeMade c (Literal b x) count v = gateMade c (Literal b x) (v 0) (v 1)
-nodeMade c (Decision x a b) count v = gateMade c (Decision x a b) (v 0) (v 1)
-nodeMade c Conjunction count v = madeFrom c v 0 count
-nodeMade c Unknown count v = gateMade c Unknown (v 0) (v 1)
-
--- the place of the last child that is used: the second, or a conjunction's last
-abbrev pub lastPlace : Gate → ℕ → ℕ
-lastPlace (Constant b) count = 1
-lastPlace (Literal b x) count = 1
-lastPlace (Decision x a b) count = 1
-lastPlace Conjunction count = count - 1
-lastPlace Unknown count = 1
+nodeMade c g count v = madeFrom c g v 0 (places g count)
 
 -- where the terms of the child at place j start, and how many there are by the counts of all nodes
 abbrev pub childFrom : NodePart → ℕ → ℕ
@@ -95,21 +107,12 @@ childSize counts p j = getD counts (getD (p .children .nodes) j 0) 0
 abbrev pub childTerms : (Bool → List ℕ) → List ℕ → NodePart → ℕ → List Term
 childTerms s counts p j = termsFrom s (childFrom p j) (childSize counts p j)
 
--- each of a conjunction's lists goes with what is made of those after it, which is no more than the next
-pub record Conjoined (c : Bool) (v : ℕ → List Term) (count : ℕ) : Type 0 where
-  pub two : 2 ≤ count
-  pub pairs : (k m : ℕ) → k + suc (suc m) ≡ count → Sides (v k) (madeFrom c v (suc k) (suc m))
-  pub grows : (k m : ℕ) → k + suc (suc m) ≡ count → length (madeFrom c v (suc k) (suc m)) ≤ length (madeFrom c v k (suc (suc m)))
-
--- what is taken for granted of the terms of a node's children
-abbrev pub NodeGiven : (Bool → List ℕ) → List ℕ → NodePart → Gate → Type 0
-NodeGiven s counts p (Constant b) = Unit {0}
-NodeGiven s counts p (Literal b x) = x < width
-NodeGiven s counts p (Decision x a b) =
-    DecidedAt x (take (childSize counts p 0) (drop (childFrom p 0) (s true))) (take (childSize counts p 0) (drop (childFrom p 0) (s false)))
-    (take (childSize counts p 1) (drop (childFrom p 1) (s true))) (take (childSize counts p 1) (drop (childFrom p 1) (s false)))
-NodeGiven s counts p Conjunction = Conjoined (p .sign) (childTerms s counts p) (p .children .count)
-NodeGiven s counts p Unknown = Unit {0}
+-- what is taken for granted of a node's lists: each goes with what is made of those after it, and what is made is no more than the next
+pub record NodeGiven (c : Bool) (g : Gate) (v : ℕ → List Term) (n : ℕ) : Type 0 where
+  pub two : 2 ≤ n
+  pub pairs : (k m : ℕ) → k + suc (suc m) ≡ n → PairGiven g (v k) (madeFrom c g v (suc k) (suc m))
+  pub grows : (k m : ℕ) → k + suc (suc (suc m)) ≡ n
+      → length (madeFrom c g v (suc k) (suc (suc m))) ≤ length (madeFrom c g v k (suc (suc (suc m))))
 
 -- the part lies in the buffers, and its children's terms stand below it; a place of no child has the number 0
 pub record Laid (s : Bool → List ℕ) (counts : List ℕ) (p : NodePart) : Type 0 where

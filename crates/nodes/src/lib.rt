@@ -16,7 +16,7 @@ ghost use Rattle.lists.specs.Capacity.{maxCapacity};
 ghost use Rattle.insertion.specs.Filled.{bySign, Filled};
 ghost use Rattle.settling.specs.Sides.{SidesAt};
 ghost use Rattle.nodes.specs.Part.{gateMade, nodeMade, Given, NodeGiven, termsAt, childFrom, childSize, childTerms, Laid};
-ghost use Rattle.nodes.specs.Part.{PartFilled, IsPart, lastPlace, HasPlace};
+ghost use Rattle.nodes.specs.Part.{PartFilled, IsPart, places, HasPlace};
 use insertion::Kept;
 use table::gates::Gate;
 use table::gates::decode_at;
@@ -211,17 +211,16 @@ fn child_at(counts: &[u32], part: NodePart, k: usize) -> Terms
     }
 }
 
-// The place of the last child that is used: the second, or a conjunction's last.
-fn last_place(gate: Gate, count: u32) -> usize
-    requires { ⌜ 1 ≤ lastPlace gate count ⌝ }
-    ensures { λ r. ⌜ r ≡ lastPlace gate count ⌝ }
+// How many places of children are used: two, or as many as a conjunction has.
+fn places(gate: Gate, count: u32) -> usize
+    ensures { λ r. ⌜ r ≡ places gate count ⌝ }
 {
     match gate {
-        Gate::Constant(_) => 1,
-        Gate::Literal(_, _) => 1,
-        Gate::Decision(_, _, _) => 1,
-        Gate::Conjunction => (count as usize) - 1,
-        Gate::Unknown => 1,
+        Gate::Constant(_) => 2,
+        Gate::Literal(_, _) => 2,
+        Gate::Decision(_, _, _) => 2,
+        Gate::Conjunction => count as usize,
+        Gate::Unknown => 2,
     }
 }
 
@@ -239,7 +238,8 @@ pub fn fill_node(
     part: NodePart,
 ) -> Kept
     requires { ⌜ Laid (bySign (now positives) (now negatives)) (now counts) part
-        × NodeGiven (bySign (now positives) (now negatives)) (now counts) part (part .gate) ⌝ }
+        × NodeGiven (part .sign) (part .gate) (childTerms (bySign (now positives) (now negatives)) (now counts) part)
+        (places (part .gate) (part .children .count)) ⌝ }
     requires { ⌜ HasPlace (part .capacity) (now ap) (now an) (now bp) (now bn) ⌝ }
     ensures { λ r. ⌜ PartFilled
         (nodeMade (part .sign) (part .gate) (part .children .count)
@@ -249,7 +249,7 @@ pub fn fill_node(
 {
     let gate = part.gate;
     let children = part.children;
-    let mut k = last_place(gate, children.count);
+    let mut k = places(gate, children.count) - 1;
     let mut high = child_at(counts, part, k);
     while 0 < k {
         k -= 1;

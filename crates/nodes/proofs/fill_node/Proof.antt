@@ -1,4 +1,4 @@
--- `nodes::fill_node` meets its contract. The invariant: the lists from place k on are joined, or the one turn is to come or is over.
+-- `nodes::fill_node` meets its contract. The invariant: what is made from place k on stands where `high` says.
 use Prim.Native.Nat.{ℕ, suc, _-_, _<_}
 use mathlib.Core.Path.{_≡_, refl, ap, subst, _∙_}
 use mathlib.Core.Bool.{Bool, true, false}
@@ -8,15 +8,15 @@ use lib.ListN.{length}
 use Rattle.insertion.specs.Filled.{bySign}
 use Rattle.insertion.specs.declared.Kept.the-variants.{Full}
 use Rattle.nodes.specs.Part.{PartFilled, HasPlace}
-use Rattle.nodes.proofs.Filling.{last-some, last-below, filling-start, filling-long, filling-few, filling-end, Filling}
-use Rattle.nodes.proofs.Filling.{filling-more, filling-full, turn-rooms, turn-given}
+use Rattle.nodes.proofs.Making.{last-below, making-start, making-long, making-few, making-end, Making}
+use Rattle.nodes.proofs.Making.{making-more, making-full, turn-rooms, turn-given}
 use borrow.Author.Needs.{needs}
 use Rattle.nodes.proofs.fill_node.Statement.{statement}
 use Rattle.nodes.proofs.fill_node.Tie as tie
 
 abbrev Inv-loop : tie.InvT-loop
 Inv-loop positives₀ negatives₀ ap₀ an₀ bp₀ bn₀ counts part gate k₀ high₀ positives negatives ap an bp bn k high =
-    Filling (bySign positives₀ negatives₀) counts part k (bySign positives negatives) high
+    Making (bySign positives₀ negatives₀) counts part k (bySign positives negatives) high
     × (length ap ≡ length ap₀) × (length an ≡ length an₀) × (length bp ≡ length bp₀) × (length bn ≡ length bn₀)
 
 abbrev μ-loop : tie.MeasureT-loop
@@ -57,7 +57,7 @@ place : (l : Loop) → 0 < l .loop .k → l .loop .k ≡ suc (l .loop .k - 1)
 place l h = omega arith
 
 abbrev At : (l : Loop) → ℕ → Type 0
-At l k = let s = start l in Filling (lent s) (counts s) (s .args .part) k (now l) (l .loop .high)
+At l k = let s = start l in Making (lent s) (counts s) (s .args .part) k (now l) (l .loop .high)
 
 this : (l : Loop) → 0 < l .loop .k → At l (suc (l .loop .k - 1))
 this l h = subst (At l) (place l h) (l .loop .inv .0)
@@ -76,7 +76,7 @@ goes c = c .before .before .before .before .before .before .before .before .befo
 long : (l : Loop) (b : Bool) → length (now l b) ≡ length (lent (start l) b)
 long l b =
     let s = start l in
-    filling-long (lent s) (counts s) (s .args .part) (s .pre .0 .0) (s .pre .0 .1) (l .loop .k) (now l) (l .loop .high)
+    making-long (lent s) (counts s) (s .args .part) (s .pre .0 .0) (s .pre .0 .1) (l .loop .k) (now l) (l .loop .high)
     (l .loop .inv .0) b
 
 -- so does the scratch, with place for two children's terms
@@ -84,38 +84,45 @@ has-place : (l : Loop)
     → HasPlace (start l .args .part .capacity) (l .loop .ap) (l .loop .an) (l .loop .bp) (l .loop .bn)
 has-place l = let i = l .loop .inv in rw (i .1, i .2, i .3, i .4) (start l .pre .1)
 
-last-place-requires : tie.Need-last-place-requires Inv-loop μ-loop
-last-place-requires c κs =
-    let s = c .before .before .before .before .before .before .before .before in
-    last-some (lent s) (counts s) (s .args .part) (s .pre .0 .0) (s .pre .0 .1)
+-- the place of the last child
+abbrev last : tie.After-places Inv-loop μ-loop → ℕ
+last c = c .places .result - 1
+
+places-requires : tie.Need-places-requires Inv-loop μ-loop
+places-requires c κs = search needs
+
+sub-k : tie.Need-sub-k Inv-loop μ-loop
+sub-k c =
+    let s = c .before .before .before .before .before .before .before .before .before in
+    omega (arith, c .places .ensures, s .pre .0 .1 .two)
 
 child-at-requires : tie.Need-child-at-requires Inv-loop μ-loop
 child-at-requires c κs =
     let s = c .before .before .before .before .before .before .before .before .before in
     let b = last-below (lent s) (counts s) (s .args .part) (s .pre .0 .0) (s .pre .0 .1) in
-    let e = c .last-place .ensures in
-    ((omega arith, s .pre .0 .0 .words (c .last-place .result)), (s .pre .0 .0 .nodes, s .pre .0 .0 .small))
+    let e = c .places .ensures in
+    ((omega arith, s .pre .0 .0 .words (last c)), (s .pre .0 .0 .nodes, s .pre .0 .0 .small))
 
 loop-holds : tie.Need-loop-holds Inv-loop μ-loop
 loop-holds c =
     let s = c .before .before .before .before .before .before .before .before .before .before in (
-      filling-start (lent s) (counts s) (s .args .part) (s .pre .0 .0) (s .pre .0 .1) (c .before .last-place .result) (c .child-at .result)
-          (c .before .last-place .ensures) (c .child-at .ensures .0) (c .child-at .ensures .1),
+      making-start (lent s) (counts s) (s .args .part) (s .pre .0 .0) (s .pre .0 .1) (last (c .before)) (c .child-at .result)
+          (ap (λ (n : ℕ). n - 1) (c .before .places .ensures)) (c .child-at .ensures .0) (c .child-at .ensures .1),
       refl,
       refl,
       refl,
       refl,
     )
 
-sub-k : tie.Need-sub-k Inv-loop μ-loop
-sub-k c = search needs
+sub-k-2 : tie.Need-sub-k-2 Inv-loop μ-loop
+sub-k-2 c = search needs
 
 child-at-requires-2 : tie.Need-child-at-requires-2 Inv-loop μ-loop
 child-at-requires-2 c κs =
     let l = c .before in
     let s = start l in
     let few =
-    filling-few (lent s) (counts s) (s .args .part) (s .pre .0 .0) (s .pre .0 .1) (l .loop .k) (now l) (l .loop .high) (l .loop .inv .0) in
+    making-few (lent s) (counts s) (s .args .part) (s .pre .0 .0) (s .pre .0 .1) (l .loop .k) (now l) (l .loop .high) (l .loop .inv .0) in
     ((omega arith, s .pre .0 .0 .words (l .loop .k - 1)), (s .pre .0 .0 .nodes, s .pre .0 .0 .small))
 
 fill-part-requires : tie.Need-fill-part-requires Inv-loop μ-loop
@@ -128,8 +135,8 @@ fill-part-requires c κs =
     let low = call .child-at2 .result in
     let f = call .child-at2 .ensures .0 in
     let n = call .child-at2 .ensures .1 in
-    let r = turn-rooms (lent s) (counts s) x (s .pre .0 .0) (s .pre .0 .1) (l .loop .k - 1) (now l) (l .loop .high) low f n j in (
-      turn-given (lent s) (counts s) x (s .pre .0 .0) (s .pre .0 .1) (l .loop .k - 1) (now l) (l .loop .high) low f n j,
+    let r = turn-rooms (lent s) (counts s) x (s .pre .0 .0) (s .pre .0 .1) (l .loop .k - 1) (now l) (l .loop .high) j low f n in (
+      turn-given (lent s) (counts s) x (s .pre .0 .0) (s .pre .0 .1) (l .loop .k - 1) (now l) (l .loop .high) j low f n,
       (
         (s .pre .0 .0 .small, r .0, r .1, r .2, r .3, r .4, r .5),
         has-place l,
@@ -166,10 +173,9 @@ returns c =
     let l = turn q in
     let s = start l in
     let call = q .before .before .before .before .before .before .before in
-    filling-full (lent s) (counts s) (s .args .part) (s .pre .0 .0) (s .pre .0 .1) (l .loop .k - 1) (now l) (l .loop .high)
-    (call .child-at2 .result) (call .child-at2 .ensures .0) (call .child-at2 .ensures .1) (then q) Full
-    (subst (PartFilled _ _ _ (now l) (then q)) (c .enum-told .given .1) (q .fill-part .ensures))
-    (this l (tested call)) refl
+    making-full (lent s) (counts s) (s .args .part) (s .pre .0 .0) (s .pre .0 .1) (l .loop .k - 1) (now l) (l .loop .high)
+    (this l (tested call)) (call .child-at2 .result) (call .child-at2 .ensures .0) (call .child-at2 .ensures .1) (then q) Full
+    (subst (PartFilled _ _ _ (now l) (then q)) (c .enum-told .given .1) (q .fill-part .ensures)) refl
 
 loop-less : tie.Need-loop-less Inv-loop μ-loop
 loop-less c = search needs
@@ -181,9 +187,9 @@ loop-again c =
     let s = start l in
     let call = q .before .before .before .before .before .before .before in
     let n : ℕ = c .before .c .given .0 .0 in (
-      filling-more (lent s) (counts s) (s .args .part) (s .pre .0 .0) (s .pre .0 .1) (l .loop .k - 1) (now l) (l .loop .high)
-          (call .child-at2 .result) (call .child-at2 .ensures .0) (call .child-at2 .ensures .1) (then q) (q .fill-part .result)
-          (q .fill-part .ensures) (this l (tested call)) n (c .before .c .given .1),
+      making-more (lent s) (counts s) (s .args .part) (s .pre .0 .0) (s .pre .0 .1) (l .loop .k - 1) (now l) (l .loop .high)
+          (this l (tested call)) (call .child-at2 .result) (call .child-at2 .ensures .0) (call .child-at2 .ensures .1) (then q)
+          (q .fill-part .result) (q .fill-part .ensures) n (c .before .c .given .1),
       q .fill-part .kept .1 .1 .0 ∙ l .loop .inv .1,
       q .fill-part .kept .1 .1 .1 .0 ∙ l .loop .inv .2,
       q .fill-part .kept .1 .1 .1 .1 .0 ∙ l .loop .inv .3,
@@ -213,7 +219,7 @@ returns-2 c =
     let l = c .before in
     let s = start l in
     let z : l .loop .k ≡ 0 = omega arith in
-    filling-end (lent s) (counts s) (s .args .part) (s .pre .0 .0) (s .pre .0 .1) (now l) (l .loop .high)
+    making-end (lent s) (counts s) (s .args .part) (s .pre .0 .0) (s .pre .0 .1) (now l) (l .loop .high)
     (subst (At l) z (l .loop .inv .0))
 
 pub fill-node-spec : {M : Type 1} → statement M
@@ -222,10 +228,11 @@ fill-node-spec =
     (tie.spec
     Inv-loop
     μ-loop
-    last-place-requires
+    places-requires
+    sub-k
     child-at-requires
     loop-holds
-    sub-k
+    sub-k-2
     child-at-requires-2
     fill-part-requires
     enum-known-c

@@ -75,3 +75,10 @@ pub fn joined<'a>(parts: impl Iterator<Item = &'a [Term]>) -> Vec<Term> {
     joined.sort_by_key(order);
     joined
 }
+
+/// The rows of a disjunction of functions that share no variable, none of which is true everywhere, in order: those of each.
+pub fn united<'a>(parts: impl Iterator<Item = &'a [Term]>) -> Vec<Term> {
+    let mut united: Vec<Term> = parts.flatten().copied().collect();
+    united.sort_by_key(order);
+    united
+}

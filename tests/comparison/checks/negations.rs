@@ -2,8 +2,7 @@
 //! for exchanged leaves: the blockers of the one are the clearances of the other. And circuits whose rows are known by construction.
 
 use crate::cases::listings::Listing;
-use crate::circuits;
-use crate::compare::Seen;
+use crate::circuits::{self, Part};
 use crate::engine;
 use crate::oracle::answers::Oracle;
 use crate::oracle::function::{Listed, Term};
@@ -71,35 +70,49 @@ fn rows_of_cubes(number: u32, size: u32) -> [Vec<Vec<Term>>; 2] {
             let all = |part: &Vec<u32>| vec![Term { positive: part.iter().map(|variable| 1 << variable).sum(), negative: 0 }];
             let each = |part: &Vec<u32>| part.iter().map(|variable| Term { positive: 0, negative: 1 << variable }).collect();
             let [alls, eaches]: [Vec<Vec<Term>>; 2] = [parts.iter().map(all).collect(), parts.iter().map(each).collect()];
-            clearances.push(rows::united(alls.iter().map(Vec::as_slice)));
-            blockers.push(rows::joined(eaches.iter().map(Vec::as_slice)));
+            clearances.push(rows::united(&alls.iter().map(Vec::as_slice).collect::<Vec<_>>()));
+            blockers.push(rows::joined(&eaches.iter().map(Vec::as_slice).collect::<Vec<_>>()));
         }
     }
     [clearances, blockers]
 }
 
-/// The engine's listing of a circuit whose rows are known.
-fn list_known(listed: Listed, table: &Table, capacity: u32, primes: &[Vec<Term>]) -> Seen {
-    let case = Listing::fitting(listed, table.clone(), capacity, 1);
-    case.compared_by(&Oracle::new(table), primes).unwrap_or_else(|difference| panic!("{listed:?} of {table:?}\n{difference}"))
+/// A circuit with one more variable in conjunction, and its rows from the circuit's own.
+fn with_literal((variables, mut nodes): Part, known: &mut [Vec<Vec<Term>>; 2]) -> Table {
+    let last = nodes.len() as u32 - 1;
+    nodes.extend([Node::No(variables), Node::Both(vec![last, last + 1])]);
+    let bit = 1 << variables;
+    let literals = [Term { positive: 0, negative: bit }, Term { positive: bit, negative: 0 }];
+    for listed in Listed::BOTH {
+        let (rows, literal) = (&mut known[listed as usize], [literals[listed as usize]]);
+        let both = rows::of_conjunction(listed, &[&rows[last as usize], &literal]);
+        rows.extend([literal.to_vec(), both]);
+    }
+    Table::of(variables + 1, &nodes)
+}
+
+/// The engine's listings of a circuit whose rows are known: just enough room, one too little, and the most.
+fn list_known(table: &Table, known: &[Vec<Vec<Term>>; 2], tally: &mut Tally) {
+    for (listed, rows) in Listed::BOTH.into_iter().zip(known) {
+        let whole = rows.last().expect("a node").len() as u32;
+        for capacity in [whole, whole - 1, 4_096].map(|capacity| capacity.min(4_096)) {
+            let compared = Listing::fitting(listed, table.clone(), capacity, 1).compared_by(&Oracle::new(table), rows);
+            tally.see(compared.unwrap_or_else(|difference| panic!("{listed:?} of {table:?}\n{difference}")));
+        }
+    }
 }
 
 /// Few clearances and as many blockers as a listing can hold, one too many for the room, and more than any listing holds.
 #[test]
 fn few_clearances_and_many_blockers() {
     let mut tally = Tally::default();
-    for (number, size, wholes) in [(6, 4, [6, 4096]), (12, 2, [12, 4096]), (8, 3, [8, 6561]), (5, 5, [5, 3125]), (2, 20, [2, 400])] {
-        let (variables, nodes) = circuits::cubes(number, size);
-        let (table, known) = (Table::of(variables, &nodes), rows_of_cubes(number, size));
+    for (number, size, wholes) in [(6, 4, [6, 4096]), (12, 2, [12, 4096]), (8, 3, [8, 6561]), (5, 5, [5, 3125]), (2, 19, [2, 361])] {
+        let (circuit, mut known) = (circuits::cubes(number, size), rows_of_cubes(number, size));
         assert_eq!([0, 1].map(|listed: usize| known[listed].last().expect("a node").len()), wholes);
-        for listed in Listed::BOTH {
-            let whole = wholes[listed as usize] as u32;
-            for capacity in [whole, whole - 1, 4_096].map(|capacity| capacity.min(4_096)) {
-                tally.see(list_known(listed, &table, capacity, &known[listed as usize]));
-            }
-        }
+        list_known(&Table::of(circuit.0, &circuit.1), &known, &mut tally);
+        list_known(&with_literal(circuit, &mut known), &known, &mut tally);
     }
-    tally.expect(&[("list", &[(1, 10), (42, 5)]), ("list_negation", &[(1, 8), (42, 7)])]);
+    tally.expect(&[("list", &[(1, 20), (42, 10)]), ("list_negation", &[(1, 12), (42, 18)])]);
 }
 
 /// The rows known by construction are those that trying every row finds.

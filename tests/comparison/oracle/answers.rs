@@ -128,11 +128,8 @@ impl Accepted {
         for (index, node) in self.nodes.iter().enumerate() {
             primes.push(match node {
                 Node::Both(children) if supports[index].count_ones() as usize > FEW => {
-                    let parts = children.iter().map(|&child| primes[child as usize].as_slice());
-                    match listed {
-                        Listed::Clearances => rows::joined(parts),
-                        Listed::Blockers => rows::united(parts),
-                    }
+                    let parts: Vec<&[Term]> = children.iter().map(|&child| primes[child as usize].as_slice()).collect();
+                    rows::of_conjunction(listed, &parts)
                 }
                 _ => {
                     let part = Functions::new(40, &reachable(&self.nodes[..=index])).expect("few enough variables to try every row");

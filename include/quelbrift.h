@@ -9,9 +9,9 @@
  * other. No function keeps a pointer or state, and calls from several threads at once do not disturb one another. A call needs at
  * most 512 KiB of stack. Bytes and nodes are counted from 0.
  *
- * Vocabulary. A fact of the trade is a variable here, a stow an assignment, a row a term, a clearance a prime implicant, the room a
- * capacity. An assignment is a mask: bit i is set where variable i is true (the fact is yes). A term is two masks: positive (marked
- * yes) and negative (marked no).
+ * Vocabulary. A fact of the trade is a variable here, a stow an assignment, a row a term, a clearance a prime implicant, a blocker a
+ * prime implicant of the negation, the room a capacity. An assignment is a mask: bit i is set where variable i is true (the fact is
+ * yes). A term is two masks: positive (marked yes) and negative (marked no).
  *
  * Tables. A circuit is a table of uint32_t words, eleven a node: kind, variable, number of children, and eight children. Node i is the
  * eleven words from 11 * i on; the last node is the whole circuit. Kinds: 0 false, 1 true, 2 yes, 3 no, 4 pick (the first child where
@@ -38,7 +38,7 @@ extern "C" {
 #endif
 
 /* The version. It is raised whenever this header or an answer of the archive changes. quelbrift_version() gives the archive's. */
-#define QUELBRIFT_VERSION 2
+#define QUELBRIFT_VERSION 3
 
 /* The limits. */
 #define QUELBRIFT_MAX_VARIABLES 40   /* the variables of a table: 1 to 40 */
@@ -97,7 +97,7 @@ enum {
     QUELBRIFT_NOT_TERM = 32,    /* such a bit, or one in both masks */
     QUELBRIFT_UNSATISFIED = 33, /* the assignment is not allowed */
     QUELBRIFT_BUFFERS = 41,     /* a capacity above 4,096, a row buffer below nodes * capacity, or counts below nodes */
-    QUELBRIFT_CAPACITY = 42,    /* more prime implicants than the capacity */
+    QUELBRIFT_CAPACITY = 42,    /* more prime implicants, of the circuit or of the negation as listed, than the capacity */
     /* of an assignment line, with the byte */
     QUELBRIFT_LINE_SHAPE = 51, /* wrong shape, placed as 11 */
     QUELBRIFT_LINE_ORDER = 52  /* a variable out of range, or not above the one before; the byte after the number */
@@ -124,7 +124,7 @@ static inline const char *quelbrift_text(uint32_t number)
     case QUELBRIFT_NOT_TERM: return "the row has a fact out of range, or one marked both yes and no";
     case QUELBRIFT_UNSATISFIED: return "the stow is not allowed";
     case QUELBRIFT_BUFFERS: return "the room is too large, or a buffer too short for it";
-    case QUELBRIFT_CAPACITY: return "more clearances than the room";
+    case QUELBRIFT_CAPACITY: return "the list has more rows than the room";
     case QUELBRIFT_LINE_SHAPE: return "the stow line has the wrong shape";
     case QUELBRIFT_LINE_ORDER: return "a fact of the stow line is out of range or out of order";
     default: return "no number of Quelbrift";
@@ -195,14 +195,17 @@ quelbrift_answer quelbrift_reduce(const uint32_t *words, size_t words_length, ui
                                   uint64_t assignment);
 
 /*
- * Lists all clearances of every node. Node i's count goes to counts[i], its positive and negative masks to positives[i * capacity] and
- * negatives[i * capacity] on. The circuit's own clearances are those of the last node: counts[nodes - 1] of them, from index
- * (nodes - 1) * capacity on. The order: fewer marks first; then the smaller mask of all marked variables, as a number; then the smaller
- * positive mask. The other entries of the first nodes * capacity are 0, later entries are unchanged.
+ * The two listings: quelbrift_list lists all clearances of every node, quelbrift_list_negation all blockers. A node's blockers are the
+ * clearances of its negation: each suffices for a stow to be no there, and no mark can be left out. Node i's count goes to counts[i],
+ * its positive and negative masks to positives[i * capacity] and negatives[i * capacity] on. The circuit's own rows are those of the
+ * last node: counts[nodes - 1] of them, from index (nodes - 1) * capacity on. The order: fewer marks first; then the smaller mask of all
+ * marked variables, as a number; then the smaller positive mask. The other entries of the first nodes * capacity are 0, later entries
+ * are unchanged. Each listing is a call of its own and reads nothing that another left: lend other buffers to keep both.
  * Done: no value. No count is above the last node's.
- * Refuses: 21 to 25, then 41; all buffers are unchanged then. Then 42, exactly where the circuit has more clearances than the
- * capacity; the first nodes * capacity entries of both row buffers and the first `nodes` counts are 0 then, later ones unchanged. Start
- * with a small capacity, and after 42 try a larger one, up to 4,096.
+ * Refuses: 21 to 25, then 41; all buffers are unchanged then. Then 42, exactly where the circuit has more clearances (for
+ * quelbrift_list_negation: blockers) than the capacity; the first nodes * capacity entries of both row buffers and the first `nodes`
+ * counts are 0 then, later ones unchanged. Start with a small capacity, and after 42 try a larger one, up to 4,096. A circuit may be
+ * refused by 42 for the one listing and done for the other.
  * Time: the circuits measured (docs/PERFORMANCE.md) take milliseconds, and the worst tables made to be slow took seconds. The worst time
  * grows with the third power of the capacity at each pick, 64 entries at a time. A call cannot be interrupted; a smaller capacity
  * bounds it.
@@ -210,6 +213,9 @@ quelbrift_answer quelbrift_reduce(const uint32_t *words, size_t words_length, ui
 quelbrift_answer quelbrift_list(const uint32_t *words, size_t words_length, uint32_t variables, uint32_t nodes, uint32_t capacity,
                                 uint64_t *positives, size_t positives_length, uint64_t *negatives, size_t negatives_length,
                                 uint32_t *counts, size_t counts_length);
+quelbrift_answer quelbrift_list_negation(const uint32_t *words, size_t words_length, uint32_t variables, uint32_t nodes,
+                                         uint32_t capacity, uint64_t *positives, size_t positives_length, uint64_t *negatives,
+                                         size_t negatives_length, uint32_t *counts, size_t counts_length);
 
 /*
  * Finds a node's rows in a row buffer, by offset and length; the buffer is not read. It never refuses.

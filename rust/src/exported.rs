@@ -2,6 +2,9 @@
 
 use crate::answer::Answer;
 
+/// The two listings have one type.
+pub type Listing = unsafe extern "C" fn(*const u32, usize, u32, u32, u32, *mut u64, usize, *mut u64, usize, *mut u32, usize) -> Answer;
+
 extern "C" {
     pub fn quelbrift_version() -> u32;
     pub fn quelbrift_read(text: *const u8, length: usize, words: *mut u32, room: usize) -> Answer;
@@ -13,6 +16,19 @@ extern "C" {
     pub fn quelbrift_is_prime(words: *const u32, length: usize, variables: u32, nodes: u32, positive: u64, negative: u64) -> Answer;
     pub fn quelbrift_reduce(words: *const u32, length: usize, variables: u32, nodes: u32, assignment: u64) -> Answer;
     pub fn quelbrift_list(
+        words: *const u32,
+        length: usize,
+        variables: u32,
+        nodes: u32,
+        capacity: u32,
+        positives: *mut u64,
+        positives_length: usize,
+        negatives: *mut u64,
+        negatives_length: usize,
+        counts: *mut u32,
+        counts_length: usize,
+    ) -> Answer;
+    pub fn quelbrift_list_negation(
         words: *const u32,
         length: usize,
         variables: u32,

@@ -8,7 +8,7 @@ mod refusal;
 pub use refusal::{Place, Refusal};
 
 /// The version that this wrapper is written for; `version` gives the archive's.
-pub const VERSION: u32 = 2;
+pub const VERSION: u32 = 3;
 
 /// The limits of the header.
 pub const MAX_VARIABLES: u32 = 40;
@@ -93,11 +93,18 @@ pub fn reduce(table: Table, assignment: u64) -> Result<Term, Refusal> {
     Ok(Term { positive, negative })
 }
 
-/// Lists the clearances of every node.
-pub fn list(table: Table, capacity: u32, positives: &mut [u64], negatives: &mut [u64], counts: &mut [u32]) -> Result<(), Refusal> {
+/// One of the two listings.
+fn listed(
+    listing: exported::Listing,
+    table: Table,
+    capacity: u32,
+    positives: &mut [u64],
+    negatives: &mut [u64],
+    counts: &mut [u32],
+) -> Result<(), Refusal> {
     let Table { words, variables, nodes } = table;
     unsafe {
-        exported::quelbrift_list(
+        listing(
             words.as_ptr(),
             words.len(),
             variables,
@@ -112,6 +119,22 @@ pub fn list(table: Table, capacity: u32, positives: &mut [u64], negatives: &mut 
         )
     }
     .nothing()
+}
+
+/// Lists the clearances of every node.
+pub fn list(table: Table, capacity: u32, positives: &mut [u64], negatives: &mut [u64], counts: &mut [u32]) -> Result<(), Refusal> {
+    listed(exported::quelbrift_list, table, capacity, positives, negatives, counts)
+}
+
+/// Lists the blockers of every node: the clearances of its negation.
+pub fn list_negation(
+    table: Table,
+    capacity: u32,
+    positives: &mut [u64],
+    negatives: &mut [u64],
+    counts: &mut [u32],
+) -> Result<(), Refusal> {
+    listed(exported::quelbrift_list_negation, table, capacity, positives, negatives, counts)
 }
 
 /// The part of a row buffer that holds the first `count` entries of a node.

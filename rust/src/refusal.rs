@@ -49,7 +49,7 @@ impl Refusal {
             32 => "the row has a fact out of range, or one marked both yes and no",
             33 => "the stow is not allowed",
             41 => "the room is too large, or a buffer too short for it",
-            42 => "more clearances than the room",
+            42 => "the list has more rows than the room",
             51 => "the stow line has the wrong shape",
             52 => "a fact of the stow line is out of range or out of order",
             _ => "no number of Quelbrift",

@@ -59,7 +59,7 @@ fn a_refusal_is_shown_with_its_place() {
     assert_eq!(shown(11, 7), "refused 11 at byte 7: the circuit text has the wrong shape");
     assert_eq!(shown(16, 300), "refused 16, 300 bytes needed: the text does not fit the sink");
     assert_eq!(shown(22, 3), "refused 22 at node 3: a node is malformed");
-    assert_eq!(shown(42, 0), "refused 42: more clearances than the room");
+    assert_eq!(shown(42, 0), "refused 42: the list has more rows than the room");
 }
 
 /// A refusal is an error like any other.

@@ -52,13 +52,13 @@ typedef struct {
     uint64_t place;
 } table;
 
-/* (pick 0 (no 1) (pick 1 (yes 2) (true))): 5 models, clearances -0 -1, +0 +1, +0 +2, -1 +2. */
+/* (pick 0 (no 1) (pick 1 (yes 2) (true))): 5 models, clearances -0 -1, +0 +1, +0 +2, -1 +2, blockers -0 +1, +0 -1 -2. */
 static const table worked = {3, 5, 55, {{3, 1}, {2, 2}, {1}, {4, 1, 2, 1, 2}, {4, 0, 2, 0, 3}}, 0, 0};
 static const char worked_nested[] = "(circuit 3)\n(pick 0 (no 1) (pick 1 (yes 2) (true)))\n";
 static const char worked_lines[] =
     "(circuit 3)\n(no 1)\n(yes 2)\n(true)\n(pick 1 (line 1) (line 2))\n(pick 0 (line 0) (line 3))\n";
 
-/* A conjunction of eight: 3 models, clearances +0 +1 and +0 +2, each with -3 to -8. */
+/* A conjunction of eight: 3 models, clearances +0 +1 and +0 +2, each with -3 to -8; blockers -0, +3 to +8 each alone, -1 -2. */
 static const table eight = {
     9, 11, 121,
     {{2, 0}, {2, 2}, {1}, {4, 1, 2, 1, 2}, {3, 3}, {3, 4}, {3, 5}, {3, 6}, {3, 7}, {3, 8}, {5, 0, 8, 0, 3, 4, 5, 6, 7, 8, 9}}, 0, 0};
@@ -286,17 +286,23 @@ static void check_reduce(void)
     }
 }
 
+/* Either listing, of clearances or of blockers. */
+typedef quelbrift_answer listing(const uint32_t *words, size_t words_length, uint32_t variables, uint32_t nodes, uint32_t capacity,
+                                 uint64_t *positives, size_t positives_length, uint64_t *negatives, size_t negatives_length,
+                                 uint32_t *counts, size_t counts_length);
+
 /* The buffers of a listing, longer than any call here needs. */
 typedef struct {
-    uint64_t positives[32];
-    uint64_t negatives[32];
+    uint64_t positives[96];
+    uint64_t negatives[96];
     uint32_t counts[12];
 } buffers;
 
-static quelbrift_answer list(buffers *lent, const table *circuit, uint32_t capacity, size_t rows, size_t negatives, size_t counts)
+static quelbrift_answer list(listing *lists, buffers *lent, const table *circuit, uint32_t capacity, size_t rows, size_t negatives,
+                             size_t counts)
 {
     memset(lent, 0xa5, sizeof *lent);
-    return quelbrift_list(TABLE(circuit), capacity, lent->positives, rows, lent->negatives, negatives, lent->counts, counts);
+    return lists(TABLE(circuit), capacity, lent->positives, rows, lent->negatives, negatives, lent->counts, counts);
 }
 
 /* The first entries are 0, the later ones unchanged. */
@@ -307,55 +313,79 @@ static int zeroed(const buffers *lent, size_t rows, size_t counts)
         && all_bytes(lent->counts, counts * 4, 0) && all_bytes(lent->counts + counts, sizeof lent->counts - counts * 4, 0xa5);
 }
 
+/* A listing that is done, with buffers just enough and with longer ones. */
+static void check_listed(listing *lists, const table *circuit, uint32_t capacity, const uint64_t *positives, const uint64_t *negatives,
+                         const uint32_t *counts)
+{
+    const size_t rows = (size_t)circuit->nodes * capacity, nodes = circuit->nodes;
+    const size_t lengths[][3] = {{rows, rows, nodes}, {rows + 3, rows + 1, nodes + 1}};
+    buffers lent;
+    for (call = 0; call < LENGTH(lengths); call++) {
+        EXPECT_DONE(list(lists, &lent, circuit, capacity, lengths[call][0], lengths[call][1], lengths[call][2]), 0, 0);
+        EXPECT(memcmp(lent.positives, positives, rows * 8) == 0);
+        EXPECT(memcmp(lent.negatives, negatives, rows * 8) == 0);
+        EXPECT(memcmp(lent.counts, counts, nodes * 4) == 0);
+        EXPECT(all_bytes(lent.positives + rows, sizeof lent.positives - rows * 8, 0xa5));
+        EXPECT(all_bytes(lent.negatives + rows, sizeof lent.negatives - rows * 8, 0xa5));
+        EXPECT(all_bytes(lent.counts + nodes, sizeof lent.counts - nodes * 4, 0xa5));
+    }
+}
+
 static void check_list(void)
 {
     static const uint64_t positives[20] = {0, 0, 0, 0, 4, 0, 0, 0, 0, 0, 0, 0, 2, 4, 0, 0, 0, 3, 5, 4};
     static const uint64_t negatives[20] = {2, 0, 0, 0, 0, 0, 0, 0, 0, 0, 0, 0, 0, 0, 0, 0, 3, 0, 0, 2};
     static const uint32_t counts[5] = {1, 1, 1, 2, 4};
-    static const size_t lengths[][3] = {{20, 20, 5}, {23, 21, 7}};
+    check_listed(quelbrift_list, &worked, 4, positives, negatives, counts);
+}
+
+/* Just enough room, and room for one more; the four clearances fit neither. */
+static void check_list_negation(void)
+{
+    static const uint64_t positives[10] = {2, 0, 0, 0, 0, 0, 0, 0, 2, 1}, negatives[10] = {0, 0, 4, 0, 0, 0, 6, 0, 1, 6};
+    static const uint64_t more_positives[15] = {2, 0, 0, 0, 0, 0, 0, 0, 0, 0, 0, 0, 2, 1, 0};
+    static const uint64_t more_negatives[15] = {0, 0, 0, 4, 0, 0, 0, 0, 0, 6, 0, 0, 1, 6, 0};
+    static const uint32_t counts[5] = {1, 1, 0, 1, 2};
+    check_listed(quelbrift_list_negation, &worked, 2, positives, negatives, counts);
+    check_listed(quelbrift_list_negation, &worked, 3, more_positives, more_negatives, counts);
+}
+
+/* What a listing refuses: one table has no row, one has one, and `worked` has a row more than the capacity `less`. */
+static void check_refusals_of(listing *lists, const table *none, const table *one, uint32_t less)
+{
+    const size_t rows = 5 * (size_t)less;
     buffers lent;
-    for (call = 0; call < LENGTH(lengths); call++) {
-        EXPECT_DONE(list(&lent, &worked, 4, lengths[call][0], lengths[call][1], lengths[call][2]), 0, 0);
-        EXPECT(memcmp(lent.positives, positives, sizeof positives) == 0);
-        EXPECT(memcmp(lent.negatives, negatives, sizeof negatives) == 0);
-        EXPECT(memcmp(lent.counts, counts, sizeof counts) == 0);
-        EXPECT(all_bytes(lent.positives + 20, sizeof lent.positives - sizeof positives, 0xa5));
-        EXPECT(all_bytes(lent.negatives + 20, sizeof lent.negatives - sizeof negatives, 0xa5));
-        EXPECT(all_bytes(lent.counts + 5, sizeof lent.counts - sizeof counts, 0xa5));
+    EXPECT_REFUSED(list(lists, &lent, &worked, less, rows, rows + 1, 5), QUELBRIFT_CAPACITY, 0);
+    EXPECT(zeroed(&lent, rows, 5));
+    EXPECT_REFUSED(list(lists, &lent, one, 0, 0, 0, 1), QUELBRIFT_CAPACITY, 0);
+    EXPECT(zeroed(&lent, 0, 1));
+    EXPECT_DONE(list(lists, &lent, none, 0, 0, 0, 1), 0, 0);
+    EXPECT(zeroed(&lent, 0, 1));
+    static const size_t short_lengths[][4] = {{4, 19, 20, 5}, {4, 20, 19, 5}, {4, 20, 20, 4}, {4097, 32, 32, 8}, {UINT32_MAX, 32, 32, 8}};
+    for (call = 0; call < LENGTH(short_lengths); call++) {
+        const size_t *row = short_lengths[call];
+        EXPECT_REFUSED(list(lists, &lent, &worked, (uint32_t)row[0], row[1], row[2], row[3]), QUELBRIFT_BUFFERS, 0);
+        EXPECT(all_bytes(&lent, sizeof lent, 0xa5));
+    }
+    FOR_EACH_REFUSED(row) {
+        EXPECT_REFUSED(list(lists, &lent, row, 4097, 0, 0, 0), row->number, row->place);
+        EXPECT(all_bytes(&lent, sizeof lent, 0xa5));
     }
 }
 
 static void check_list_refusals(void)
 {
     const table never = {1, 1, 11, {{0}}, 0, 0}, always = {1, 1, 11, {{1}}, 0, 0};
-    buffers lent;
-    EXPECT_REFUSED(list(&lent, &worked, 3, 15, 16, 5), QUELBRIFT_CAPACITY, 0);
-    EXPECT(zeroed(&lent, 15, 5));
-    EXPECT_REFUSED(list(&lent, &always, 0, 0, 0, 1), QUELBRIFT_CAPACITY, 0);
-    EXPECT(zeroed(&lent, 0, 1));
-    EXPECT_DONE(list(&lent, &never, 0, 0, 0, 1), 0, 0);
-    EXPECT(zeroed(&lent, 0, 1));
-    static const size_t short_lengths[][4] = {{4, 19, 20, 5}, {4, 20, 19, 5}, {4, 20, 20, 4}, {4097, 32, 32, 8}, {UINT32_MAX, 32, 32, 8}};
-    for (call = 0; call < LENGTH(short_lengths); call++) {
-        const size_t *row = short_lengths[call];
-        EXPECT_REFUSED(list(&lent, &worked, (uint32_t)row[0], row[1], row[2], row[3]), QUELBRIFT_BUFFERS, 0);
-        EXPECT(all_bytes(&lent, sizeof lent, 0xa5));
-    }
-    FOR_EACH_REFUSED(row) {
-        EXPECT_REFUSED(list(&lent, row, 4097, 0, 0, 0), row->number, row->place);
-        EXPECT(all_bytes(&lent, sizeof lent, 0xa5));
-    }
+    check_refusals_of(quelbrift_list, &never, &always, 3);
+    call = 0;
+    check_refusals_of(quelbrift_list_negation, &always, &never, 1);
 }
 
-/* Every operation on the conjunction of eight. */
+/* Every operation but the listings on the conjunction of eight. */
 static void check_eight(void)
 {
-    static const uint64_t positives[22] = {1, 0, 4, 0, 0, 0, 2, 4, 0, 0, 0, 0, 0, 0, 0, 0, 0, 0, 0, 0, 3, 5};
-    static const uint64_t negatives[22] = {0, 0, 0, 0, 0, 0, 0, 0, 8, 0, 16, 0, 32, 0, 64, 0, 128, 0, 256, 0, 0x1f8, 0x1f8};
-    static const uint32_t counts[11] = {1, 1, 1, 2, 1, 1, 1, 1, 1, 1, 2};
     uint32_t words[121];
     uint8_t sink[sizeof eight_lines - 1];
-    buffers lent;
     EXPECT_DONE(quelbrift_read((const uint8_t *)eight_nested, sizeof eight_nested - 1, words, 121), 9, 11);
     EXPECT(memcmp(words, eight.words, sizeof words) == 0);
     EXPECT_DONE(quelbrift_write(TABLE(&eight), sink, sizeof sink), sizeof sink, 0);
@@ -369,12 +399,28 @@ static void check_eight(void)
     EXPECT_DONE(quelbrift_is_prime(TABLE(&eight), 3, 0x1f8), 1, 0);
     EXPECT_DONE(quelbrift_is_prime(TABLE(&eight), 7, 0x1f8), 0, 0);
     EXPECT_DONE(quelbrift_reduce(TABLE(&eight), 7), 5, 0x1f8);
-    EXPECT_DONE(list(&lent, &eight, 2, 22, 22, 11), 0, 0);
-    EXPECT(memcmp(lent.positives, positives, sizeof positives) == 0);
-    EXPECT(memcmp(lent.negatives, negatives, sizeof negatives) == 0);
-    EXPECT(memcmp(lent.counts, counts, sizeof counts) == 0);
-    EXPECT_REFUSED(list(&lent, &eight, 1, 11, 11, 11), QUELBRIFT_CAPACITY, 0);
+}
+
+/* The listings of the conjunction of eight: of the clearances each join, of the blockers each child's. */
+static void check_eight_listed(void)
+{
+    static const uint64_t positives[22] = {1, 0, 4, 0, 0, 0, 2, 4, 0, 0, 0, 0, 0, 0, 0, 0, 0, 0, 0, 0, 3, 5};
+    static const uint64_t negatives[22] = {0, 0, 0, 0, 0, 0, 0, 0, 8, 0, 16, 0, 32, 0, 64, 0, 128, 0, 256, 0, 0x1f8, 0x1f8};
+    static const uint32_t counts[11] = {1, 1, 1, 2, 1, 1, 1, 1, 1, 1, 2};
+    static const uint64_t blocker_positives[88] = {
+        [32] = 8, [40] = 16, [48] = 32, [56] = 64, [64] = 128, [72] = 256,
+        [81] = 8, [82] = 16, [83] = 32, [84] = 64, [85] = 128, [86] = 256};
+    static const uint64_t blocker_negatives[88] = {[0] = 1, [8] = 4, [24] = 6, [80] = 1, [87] = 6};
+    static const uint32_t blocker_counts[11] = {1, 1, 0, 1, 1, 1, 1, 1, 1, 1, 8};
+    buffers lent;
+    check_listed(quelbrift_list, &eight, 2, positives, negatives, counts);
+    check_listed(quelbrift_list_negation, &eight, 8, blocker_positives, blocker_negatives, blocker_counts);
+    EXPECT_REFUSED(list(quelbrift_list, &lent, &eight, 1, 11, 11, 11), QUELBRIFT_CAPACITY, 0);
     EXPECT(zeroed(&lent, 11, 11));
+    for (uint32_t capacity = 0; capacity < 8; capacity++) {
+        EXPECT_REFUSED(list(quelbrift_list_negation, &lent, &eight, capacity, 88, 88, 11), QUELBRIFT_CAPACITY, 0);
+        EXPECT(zeroed(&lent, 11 * capacity, 11));
+    }
 }
 
 static void check_view(void)
@@ -454,8 +500,10 @@ int main(void)
     run(check_is_prime);
     run(check_reduce);
     run(check_list);
+    run(check_list_negation);
     run(check_list_refusals);
     run(check_eight);
+    run(check_eight_listed);
     run(check_view);
     run(check_read_assignment);
     run(check_version);

@@ -181,12 +181,18 @@ pub fn symmetric(variables: u32, numbers: u64) -> Vec<Node> {
     reachable(&nodes)
 }
 
-/// A long chain: `both` with constants, or the same part under a `pick` once for each variable.
+/// True where an odd number of the variables are. Has 2^(variables - 1) clearances, and as many blockers.
+pub fn parity(variables: u32) -> Vec<Node> {
+    symmetric(variables, 0xaaaa_aaaa)
+}
+
+/// A long chain over a literal: `both` with constants, or the same part under a `pick` once for each other variable.
 pub fn chain(random: &Random, variables: u32, length: u64) -> Vec<Node> {
-    let mut nodes = vec![Node::True];
     let mut free: Vec<u32> = (0..variables).collect();
     random.shuffle(&mut free);
-    for _ in 0..length {
+    let first = free.pop().expect("a variable");
+    let mut nodes = vec![Node::True, random.choose(&[Node::Yes(first), Node::No(first)])];
+    for _ in 1..length {
         let (last, any) = (nodes.len() as u32 - 1, random.position(nodes.len()) as u32);
         let constant = supports(&nodes)[any as usize] == 0;
         let node = match free.last() {
@@ -230,6 +236,35 @@ pub fn clauses(number: usize, variables: u32) -> Part {
     let mut parts = vec![(variables, symmetric(variables, u64::MAX - 1)); number];
     parts.resize(MOST_CHILDREN, (0, vec![Node::True]));
     conjunction(&parts)
+}
+
+/// True where all variables of at least one block are, that many blocks of so many variables; by decisions alone. Has a clearance a
+/// block, and a blocker for each choice of one variable from every block.
+pub fn cubes(number: u32, size: u32) -> Part {
+    let mut nodes = vec![Node::False, Node::True];
+    let mut otherwise = 0;
+    for start in (0..number).rev().map(|block| block * size) {
+        let mut all = 1;
+        for variable in (start..start + size).rev() {
+            nodes.push(Node::Pick(variable, otherwise, all));
+            all = nodes.len() as u32 - 1;
+        }
+        otherwise = all;
+    }
+    (number * size, nodes)
+}
+
+/// The negation of each node of a circuit without `both`: constants and literals are exchanged.
+pub fn negated(nodes: &[Node]) -> Vec<Node> {
+    let negation = |node: &Node| match node {
+        Node::False => Node::True,
+        Node::True => Node::False,
+        Node::Yes(variable) => Node::No(*variable),
+        Node::No(variable) => Node::Yes(*variable),
+        pick @ Node::Pick(..) => pick.clone(),
+        Node::Both(_) => panic!("a circuit without `both`"),
+    };
+    nodes.iter().map(negation).collect()
 }
 
 /// A circuit over that many variables, or none, whose node is not `false`.

@@ -1,7 +1,7 @@
 //! The archive's answers in the oracle's types. A wrapper's panic (an answer that no paper allows) is caught, so that it can be
 //! shown with the case that led to it.
 
-use crate::oracle::function::Term;
+use crate::oracle::function::{Listed, Term};
 use crate::oracle::listing::Buffers;
 use crate::oracle::table::Table;
 use crate::oracle::Refused;
@@ -59,8 +59,18 @@ pub fn middle<T>(list: &mut [T]) -> &mut [T] {
     &mut list[MARGIN..end]
 }
 
+/// One of the two listings.
+pub type Listing = fn(quelbrift::Table, u32, &mut [u64], &mut [u64], &mut [u32]) -> Result<(), quelbrift::Refusal>;
+
+pub fn listing(listed: Listed) -> Listing {
+    match listed {
+        Listed::Clearances => quelbrift::list,
+        Listed::Blockers => quelbrift::list_negation,
+    }
+}
+
 /// Lists into the middles of three lists with margins.
-pub fn list(table: &Table, capacity: u32, lists: &mut Buffers) -> Result<(), Refused> {
+pub fn list(listed: Listed, table: &Table, capacity: u32, lists: &mut Buffers) -> Result<(), Refused> {
     let Buffers { positives, negatives, counts } = lists;
-    own(quelbrift::list(lent(table), capacity, middle(positives), middle(negatives), middle(counts)))
+    own(listing(listed)(lent(table), capacity, middle(positives), middle(negatives), middle(counts)))
 }

@@ -4,7 +4,7 @@ use crate::columns::{Bits, Columns, VARIABLES, WORDS};
 use crate::listing::{self, Lent, Listed};
 use crate::part::{Full, Part};
 use crate::steps::{Steps, Uncounted};
-use crate::terms::{common, conflict, extend, inside, join, size, without, Term, Terms, EMPTY};
+use crate::terms::{common, conflict, extend, inside, join, size, without, Of, Term, Terms, EMPTY};
 use quelbrift::Table;
 
 /// The place of no kept term.
@@ -231,11 +231,11 @@ pub fn decision(list: &mut Part, steps: &mut impl Steps, x: u32, a: Terms, b: Te
 }
 
 /// The same as `list`, and counts the steps of its decisions.
-pub fn list_counting(steps: &mut impl Steps, table: Table, capacity: u32, lent: Lent) -> Listed {
-    listing::list(|list: &mut Part, x, a: Terms, b: Terms| decision(list, steps, x, a, b), table, capacity, lent)
+pub fn list_counting(steps: &mut impl Steps, of: Of, table: Table, capacity: u32, lent: Lent) -> Listed {
+    listing::list(|list: &mut Part, x, a: Terms, b: Terms| decision(list, steps, x, a, b), of, table, capacity, lent)
 }
 
-/// Lists the prime implicants of every node; the same arguments and answer as the engine's listing.
-pub fn list(table: Table, capacity: u32, positives: &mut [u64], negatives: &mut [u64], counts: &mut [u32]) -> Listed {
-    list_counting(&mut Uncounted, table, capacity, Lent::new(table, capacity, positives, negatives, counts)?)
+/// Lists the prime implicants of every node; the same arguments and answer as the engine's two listings.
+pub fn list(of: Of, table: Table, capacity: u32, positives: &mut [u64], negatives: &mut [u64], counts: &mut [u32]) -> Listed {
+    list_counting(&mut Uncounted, of, table, capacity, Lent::new(table, capacity, positives, negatives, counts)?)
 }

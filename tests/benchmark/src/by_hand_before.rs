@@ -1,7 +1,7 @@
 //! The engine's algorithm before: each join of a decision is tried with two pairs remembered, and searched where they do not settle it.
 use crate::listing::{self, Lent, Listed};
 use crate::part::{Full, Part};
-use crate::terms::{common, conflict, extend, inside, join, Term, Terms, EMPTY};
+use crate::terms::{common, conflict, extend, inside, join, Of, Term, Terms, EMPTY};
 use quelbrift::Table;
 
 /// b is inside t, and a literal of t is neither in a nor in b.
@@ -88,7 +88,7 @@ fn decision(part: &mut Part, x: u32, a: Terms, b: Terms) -> Result<(), Full> {
     Ok(())
 }
 
-/// Lists the prime implicants of every node; the same arguments and answer as the engine's listing.
-pub fn list(table: Table, capacity: u32, positives: &mut [u64], negatives: &mut [u64], counts: &mut [u32]) -> Listed {
-    listing::list(decision, table, capacity, Lent::new(table, capacity, positives, negatives, counts)?)
+/// Lists the prime implicants of every node; the same arguments and answer as the engine's two listings.
+pub fn list(of: Of, table: Table, capacity: u32, positives: &mut [u64], negatives: &mut [u64], counts: &mut [u32]) -> Listed {
+    listing::list(decision, of, table, capacity, Lent::new(table, capacity, positives, negatives, counts)?)
 }

@@ -9,7 +9,7 @@ mod sets;
 use crate::check::node;
 use crate::listing::{Lent, Listed};
 use crate::part::Full;
-use crate::terms::{Term, EMPTY};
+use crate::terms::{Of, Term, EMPTY};
 use functions::Functions;
 use nodes::{Node, ONE, ZERO};
 use quelbrift::Table;
@@ -50,6 +50,12 @@ impl Diagrams {
         Ok(roots)
     }
 
+    /// The prime implicants of a function or of its negation.
+    fn listed(&mut self, of: Of, f: u32) -> Result<u32, Over> {
+        let listed = if of == Of::Function { f } else { self.functions.not(f)? };
+        self.primes(listed)
+    }
+
     /// The prime implicants of a function f: those of both cofactors by its top variable; those of one of them alone, with a literal.
     fn primes(&mut self, f: u32) -> Result<u32, Over> {
         if let Some(&set) = self.primes.get(f as usize).filter(|&&set| set != UNKNOWN) {
@@ -77,10 +83,10 @@ impl Diagrams {
 }
 
 /// The prime implicants of the last node.
-pub fn list_last(table: Table) -> Result<Vec<Term>, Over> {
+pub fn list_last(of: Of, table: Table) -> Result<Vec<Term>, Over> {
     let mut diagrams = Diagrams::new();
     let roots = diagrams.read(table)?;
-    let set = diagrams.primes(roots[roots.len() - 1])?;
+    let set = diagrams.listed(of, roots[roots.len() - 1])?;
     let mut keys = Vec::new();
     diagrams.keys(set, usize::MAX, &mut keys);
     Ok(keys.into_iter().map(unpacked).collect())
@@ -111,15 +117,23 @@ fn write(diagrams: &Diagrams, sets: &[u32], capacity: usize, lent: &mut Lent) ->
     Ok(())
 }
 
-/// Lists the prime implicants of every node; the engine's arguments, and its answer unless the nodes of the diagrams are too many.
-pub fn list(table: Table, capacity: u32, positives: &mut [u64], negatives: &mut [u64], counts: &mut [u32]) -> Result<Listed, Over> {
+/// Lists the prime implicants of every node; the arguments of the engine's two listings, and their answer unless the nodes of the
+/// diagrams are too many.
+pub fn list(
+    of: Of,
+    table: Table,
+    capacity: u32,
+    positives: &mut [u64],
+    negatives: &mut [u64],
+    counts: &mut [u32],
+) -> Result<Listed, Over> {
     let mut lent = match Lent::new(table, capacity, positives, negatives, counts) {
         Ok(lent) => lent,
         Err(refusal) => return Ok(Err(refusal)),
     };
     let mut diagrams = Diagrams::new();
     let roots = diagrams.read(table)?;
-    let sets = roots.into_iter().map(|f| diagrams.primes(f)).collect::<Result<Vec<u32>, Over>>()?;
+    let sets = roots.into_iter().map(|f| diagrams.listed(of, f)).collect::<Result<Vec<u32>, Over>>()?;
     let filled = write(&diagrams, &sets, capacity as usize, &mut lent);
     Ok(lent.finish(filled))
 }

@@ -228,6 +228,30 @@ fn every_or(c: &mut Circuit, all: &[u32], node: u32) -> u32 {
     top
 }
 
+/// Blocks of m variables each.
+fn blocks_of(blocks: u32, m: u32) -> Vec<Vec<u32>> {
+    (0..blocks).map(|i| range(i * m, m)).collect()
+}
+
+/// All variables of at least one of some blocks of m, by decisions alone: as many prime implicants as blocks, and m^blocks of the
+/// negation.
+pub fn all_of_one(blocks: u32, m: u32) -> Family {
+    let mut c = Circuit::new(blocks * m);
+    let none = c.constant(false);
+    blocks_of(blocks, m).iter().rev().fold(none, |node, block| every_or(&mut c, block, node));
+    named(format!("all of one of {blocks} blocks of {m}"), c)
+}
+
+/// At least one variable of each of some blocks of m, by decisions alone: m^blocks prime implicants, and as many of the negation as
+/// blocks.
+pub fn one_of_each(blocks: u32, m: u32) -> Family {
+    let mut c = Circuit::new(blocks * m);
+    let (none, all) = (c.constant(false), c.constant(true));
+    let some_and = |node: u32, block: &Vec<u32>| block.iter().rev().fold(none, |rest, &x| c.decision(x, rest, node));
+    blocks_of(blocks, m).iter().rev().fold(all, some_and);
+    named(format!("one of each of {blocks} blocks of {m}"), c)
+}
+
 /// A decision whose sides have p = C(m, k) terms each and one in common, the last of each, which is inside all p^2 joins.
 pub fn late(k: usize, m: u32) -> Family {
     let size = k as u32;
@@ -382,6 +406,10 @@ pub fn usual() -> Vec<Family> {
         one_join(4, 9),
         same_sides(&[8, 8, 8], 1),
         late(4, 11),
+        all_of_one(6, 4),
+        one_of_each(6, 4),
+        all_of_one(8, 4),
+        one_of_each(8, 4),
     ]
 }
 

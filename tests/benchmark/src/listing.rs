@@ -1,7 +1,7 @@
 //! A listing by hand: the table is checked, the lent buffers are cleared, and the terms of each node are made in its own part.
 use crate::check::{check, node};
 use crate::part::{Full, Part};
-use crate::terms::{conflict, extend, join, Terms, EMPTY};
+use crate::terms::{conflict, extend, join, key, Of, Term, Terms, EMPTY};
 use quelbrift::{Refusal, Table};
 
 /// Done, or refused with a number.
@@ -74,9 +74,21 @@ fn conjunction<'a>(part: &mut Part, children: &[u32], terms: impl Fn(u32) -> Ter
     joins(part, first, joined.terms())
 }
 
+/// Makes the terms of the negation of a conjunction: those of the children's negations, in order.
+fn union<'a>(part: &mut Part, children: &[u32], terms: impl Fn(u32) -> Terms<'a>) -> Result<(), Full> {
+    let mut all: Vec<Term> = children.iter().flat_map(|&child| terms(child).iter()).collect();
+    if all.len() > part.positives.len() {
+        return Err(Full);
+    }
+    all.sort_by_key(|&t| key(t));
+    all.into_iter().for_each(|t| part.push(t));
+    Ok(())
+}
+
 /// Makes the terms of one node in its own part, from its children's terms in the parts below.
 fn fill(
     decision: &mut impl FnMut(&mut Part, u32, Terms, Terms) -> Result<(), Full>,
+    of: Of,
     part: &mut Part,
     node: (u32, u32, &[u32]),
     below: Terms,
@@ -90,10 +102,11 @@ fn fill(
         Terms { positives: &below.positives[start..end], negatives: &below.negatives[start..end] }
     };
     match kind {
-        1 => part.insert(EMPTY).map(|_| ()),
-        2 | 3 => part.insert(extend(EMPTY, x, kind == 2)).map(|_| ()),
+        0 | 1 if of.value(kind == 1) => part.insert(EMPTY).map(|_| ()),
+        2 | 3 => part.insert(extend(EMPTY, x, of.value(kind == 2))).map(|_| ()),
         4 => decision(part, x, terms(children[0]), terms(children[1])),
-        5 => conjunction(part, children, terms),
+        5 if of == Of::Function => conjunction(part, children, terms),
+        5 => union(part, children, terms),
         _ => Ok(()),
     }
 }
@@ -101,6 +114,7 @@ fn fill(
 /// Fills the nodes' parts, the lowest node first.
 fn fill_all(
     mut decision: impl FnMut(&mut Part, u32, Terms, Terms) -> Result<(), Full>,
+    of: Of,
     table: Table,
     capacity: usize,
     lent: &mut Lent,
@@ -110,7 +124,7 @@ fn fill_all(
         let (low_negatives, high_negatives) = lent.negatives.split_at_mut(i * capacity);
         let below = Terms { positives: low, negatives: low_negatives };
         let mut part = Part { positives: &mut high[..capacity], negatives: &mut high_negatives[..capacity], count: 0 };
-        fill(&mut decision, &mut part, node(table.words, i), below, lent.counts, capacity)?;
+        fill(&mut decision, of, &mut part, node(table.words, i), below, lent.counts, capacity)?;
         lent.counts[i] = part.count as u32;
     }
     Ok(())
@@ -119,10 +133,11 @@ fn fill_all(
 /// Lists the prime implicants of every node; a decision's by the given function from its part, its variable and its sides' terms.
 pub fn list(
     decision: impl FnMut(&mut Part, u32, Terms, Terms) -> Result<(), Full>,
+    of: Of,
     table: Table,
     capacity: u32,
     mut lent: Lent,
 ) -> Listed {
-    let filled = fill_all(decision, table, capacity as usize, &mut lent);
+    let filled = fill_all(decision, of, table, capacity as usize, &mut lent);
     lent.finish(filled)
 }

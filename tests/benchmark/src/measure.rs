@@ -1,13 +1,13 @@
-//! The times of one circuit by the engine and its peers. All list the same terms, or the program stops.
+//! The times of one circuit by the engine and its peers. All list the same terms, or refuse by 42, or the program stops.
 use crate::buffers::Buffers;
 use crate::diagrams::Over;
 use crate::families::Family;
-use crate::listing::Lent;
+use crate::listing::{Lent, Listed};
 use crate::steps::Counted;
-use crate::terms::Term;
+use crate::terms::{Of, Term};
 use crate::timing::{least, shown, Runs};
 use crate::{by_hand, by_hand_before, diagrams, truth_table};
-use quelbrift::Table;
+use quelbrift::{Refusal, Table};
 use std::time::Duration;
 
 /// More variables than this are too many for a truth table.
@@ -59,25 +59,36 @@ pub enum Peer {
 }
 
 impl Peer {
-    /// Lists into the buffers; false where it gives up.
-    fn list(self, family: &Family, capacity: u32, buffers: &mut Buffers) -> bool {
+    /// Lists into the buffers: whether there was room. None where it gives up.
+    fn list(self, of: Of, family: &Family, capacity: u32, buffers: &mut Buffers) -> Option<bool> {
         let (table, Buffers { positives, negatives, counts }) = (family.circuit.table(), buffers);
         let listed = match self {
-            Peer::Engine => quelbrift::list(table, capacity, positives, negatives, counts),
-            Peer::ByHand => by_hand::list(table, capacity, positives, negatives, counts),
-            Peer::Before => by_hand_before::list(table, capacity, positives, negatives, counts),
-            Peer::Diagrams => match diagrams::list(table, capacity, positives, negatives, counts) {
+            Peer::Engine if of == Of::Function => quelbrift::list(table, capacity, positives, negatives, counts),
+            Peer::Engine => quelbrift::list_negation(table, capacity, positives, negatives, counts),
+            Peer::ByHand => by_hand::list(of, table, capacity, positives, negatives, counts),
+            Peer::Before => by_hand_before::list(of, table, capacity, positives, negatives, counts),
+            Peer::Diagrams => match diagrams::list(of, table, capacity, positives, negatives, counts) {
                 Ok(listed) => listed,
-                Err(Over) => return false,
+                Err(Over) => return None,
             },
         };
-        listed.is_ok() || stop(&format!("{}: {listed:?}", family.name))
+        Some(had_room(family, listed))
     }
 }
 
-/// The times of a family, and the number of its prime implicants.
+/// Whether a listing had room; the program stops where it is refused for something else.
+fn had_room(family: &Family, listed: Listed) -> bool {
+    match listed {
+        Ok(()) => true,
+        Err(Refusal { number: 42, .. }) => false,
+        Err(refusal) => stop(&format!("{}: {refusal}", family.name)),
+    }
+}
+
+/// The times of a family, and the number of prime implicants; none where they are more than the capacity, which the listings of every
+/// node refuse.
 pub struct Measured {
-    pub rows: usize,
+    pub rows: Option<usize>,
     pub engine: Cell,
     pub by_hand: Cell,
     pub before: Cell,
@@ -88,57 +99,59 @@ pub struct Measured {
     pub truth_table: Cell,
 }
 
-/// The times of some listings of every node, and what the first of them lists.
-fn timed(family: &Family, peers: &[Peer], capacity: u32, runs: Runs) -> (Vec<Option<Duration>>, Buffers) {
-    let mut buffers: Vec<Buffers> = peers.iter().map(|_| Buffers::new(family.circuit.table(), capacity)).collect();
-    let times = least(runs, peers.len(), |i| peers[i].list(family, capacity, &mut buffers[i]));
-    if buffers.iter().zip(&times).any(|(other, time)| time.is_some() && *other != buffers[0]) {
+/// The times of some listings of every node, and the terms of the last node by the first of them; none where it had no room.
+fn timed(of: Of, family: &Family, peers: &[Peer], capacity: u32, runs: Runs) -> (Vec<Option<Duration>>, Option<Vec<Term>>) {
+    let mut lists: Vec<(Option<bool>, Buffers)> = peers.iter().map(|_| (None, Buffers::new(family.circuit.table(), capacity))).collect();
+    let times = least(runs, peers.len(), |i| {
+        let (room, buffers) = &mut lists[i];
+        *room = peers[i].list(of, family, capacity, buffers);
+        room.is_some()
+    });
+    if lists.iter().any(|list| list.0.is_some() && *list != lists[0]) {
         stop(&format!("{}: the listings differ", family.name));
     }
-    (times, buffers.swap_remove(0))
+    let (room, buffers) = &lists[0];
+    (times, room.filter(|&room| room).map(|_| buffers.last(capacity)))
 }
 
-/// The time of a listing of the last node, whose terms are as listed; over where it gives up.
-fn timed_last(family: &Family, runs: Runs, listed: &[Term], list: impl Fn(Table) -> Option<Vec<Term>>) -> Cell {
+/// The time of a listing of the last node, whose terms are as listed, or more than the capacity; over where it gives up.
+fn timed_last(family: &Family, runs: Runs, listed: &Option<Vec<Term>>, capacity: u32, list: impl Fn(Table) -> Option<Vec<Term>>) -> Cell {
     let mut terms = None;
     let times = least(runs, 1, |_| {
         terms = list(family.circuit.table());
         terms.is_some()
     });
-    if terms.is_some_and(|terms| terms != listed) {
+    let fits = |terms: &Vec<Term>| terms.len() <= capacity as usize;
+    if terms.is_some_and(|terms| Some(terms).filter(fits) != *listed) {
         stop(&format!("{}: the listings of the last node differ", family.name));
     }
     Cell::of(times[0])
 }
 
 /// Measures a family by some of the listings of every node, the first of which does not give up, and by those of the last node.
-pub fn measure(family: &Family, peers: &[Peer], capacity: u32, runs: Runs) -> Measured {
-    let (times, listed) = timed(family, peers, capacity, runs);
+pub fn measure(of: Of, family: &Family, peers: &[Peer], capacity: u32, runs: Runs) -> Measured {
+    let (times, last) = timed(of, family, peers, capacity, runs);
     let cell = |peer: Peer| peers.iter().position(|&other| other == peer).map_or(Cell::NotRun, |i| Cell::of(times[i]));
-    let last = listed.last(capacity);
     let truth_table = match family.circuit.variables > TABLE_VARIABLES {
         true => Cell::NotRun,
-        false => timed_last(family, runs, &last, |table| Some(truth_table::list(table))),
+        false => timed_last(family, runs, &last, capacity, |table| Some(truth_table::list(of, table))),
     };
     Measured {
-        rows: last.len(),
+        rows: last.as_ref().map(Vec::len),
         engine: cell(Peer::Engine),
         by_hand: cell(Peer::ByHand),
         before: cell(Peer::Before),
-        last_diagram: timed_last(family, runs, &last, |table| diagrams::list_last(table).ok()),
+        last_diagram: timed_last(family, runs, &last, capacity, |table| diagrams::list_last(of, table).ok()),
         diagrams: cell(Peer::Diagrams),
         truth_table,
     }
 }
 
 /// The steps of the decisions of a circuit by hand.
-pub fn steps(family: &Family, capacity: u32) -> u64 {
+pub fn steps(of: Of, family: &Family, capacity: u32) -> u64 {
     let table = family.circuit.table();
     let (mut steps, mut buffers) = (Counted(0), Buffers::new(table, capacity));
     let lent = Lent::new(table, capacity, &mut buffers.positives, &mut buffers.negatives, &mut buffers.counts);
-    let listed = lent.and_then(|lent| by_hand::list_counting(&mut steps, table, capacity, lent));
-    if listed.is_err() {
-        stop(&format!("{}: {listed:?}", family.name));
-    }
+    had_room(family, lent.and_then(|lent| by_hand::list_counting(&mut steps, of, table, capacity, lent)));
     steps.0
 }

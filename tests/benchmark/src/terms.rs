@@ -1,6 +1,20 @@
 //! Terms of two masks, their order, and lists of them.
 pub use quelbrift::Term;
 
+/// What is listed of a node: the prime implicants of its function, or those of the negation.
+#[derive(Clone, Copy, PartialEq)]
+pub enum Of {
+    Function,
+    Negation,
+}
+
+impl Of {
+    /// The value of what is listed where the node's function has that value.
+    pub fn value(self, own: bool) -> bool {
+        own == (self == Of::Function)
+    }
+}
+
 /// The term with no literal.
 pub const EMPTY: Term = Term { positive: 0, negative: 0 };
 

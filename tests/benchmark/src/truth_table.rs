@@ -1,6 +1,6 @@
-//! Quine-McCluskey by truth table: all minterms of the circuit, merged level by level.
+//! Quine-McCluskey by truth table: all minterms of the circuit, or of its negation, merged level by level.
 use crate::check::node;
-use crate::terms::key;
+use crate::terms::{key, Of};
 use quelbrift::{Table, Term};
 
 /// An implicant: the free variables in the high half, the values of the others in the low half.
@@ -28,9 +28,9 @@ fn value(words: &[u32], values: &mut [bool], assignment: u32) -> bool {
 }
 
 /// The minterms, rising.
-fn minterms(table: Table) -> Vec<Implicant> {
+fn minterms(of: Of, table: Table) -> Vec<Implicant> {
     let mut values = vec![false; table.nodes as usize];
-    (0..1u32 << table.variables).filter(|&s| value(table.words, &mut values, s)).map(|s| implicant(0, s)).collect()
+    (0..1u32 << table.variables).filter(|&s| of.value(value(table.words, &mut values, s))).map(|s| implicant(0, s)).collect()
 }
 
 /// Finds the pairs of one group (the same free variables) that differ in x alone, marks them, and adds the merged ones.
@@ -76,9 +76,9 @@ fn term(implicant: Implicant, variables: u32) -> Term {
     Term { positive, negative: fixed & !positive }
 }
 
-/// The prime implicants of the circuit, in the engine's order.
-pub fn list(table: Table) -> Vec<Term> {
-    let mut level = minterms(table);
+/// The prime implicants of the circuit or of its negation, in the engine's order.
+pub fn list(of: Of, table: Table) -> Vec<Term> {
+    let mut level = minterms(of, table);
     let mut primes = Vec::new();
     while !level.is_empty() {
         let mut next = Vec::new();

@@ -1,19 +1,20 @@
-//! The listing and the view.
+//! The two listings and the view.
 
 use super::questions::{paste_table, table_notes};
 use crate::compare::{same, same_entries, Case, Seen};
 use crate::engine::{self, MARGIN};
 use crate::oracle::answers::Oracle;
-use crate::oracle::function::Term;
+use crate::oracle::function::{Listed, Term};
 use crate::oracle::listing::{self, Buffers};
 use crate::oracle::table::Table;
 use crate::oracle::view;
 use crate::random::Random;
 use crate::shrink;
 
-/// A listing: the capacity, and the lengths of the buffers (positive masks, negative masks, counts).
+/// A listing: what is listed, the capacity, and the lengths of the buffers (positive masks, negative masks, counts).
 #[derive(Clone, Debug)]
 pub struct Listing {
+    pub listed: Listed,
     pub table: Table,
     pub capacity: u32,
     pub lengths: [usize; 3],
@@ -49,25 +50,38 @@ fn with_middles(lists: &Buffers, middles: &Buffers) -> Buffers {
 }
 
 impl Listing {
-    pub fn new(table: Table, capacity: u32, lengths: [usize; 3], noise: u64) -> Listing {
-        Listing { table, capacity, lengths, noise }
+    pub fn new(listed: Listed, table: Table, capacity: u32, lengths: [usize; 3], noise: u64) -> Listing {
+        Listing { listed, table, capacity, lengths, noise }
+    }
+
+    /// With buffers just enough.
+    pub fn fitting(listed: Listed, table: Table, capacity: u32, noise: u64) -> Listing {
+        let (nodes, rows) = (table.nodes as usize, table.nodes as usize * capacity as usize);
+        Listing::new(listed, table, capacity, [rows, rows, nodes], noise)
+    }
+
+    fn operation(&self) -> &'static str {
+        match self.listed {
+            Listed::Clearances => "list",
+            Listed::Blockers => "list_negation",
+        }
     }
 
     /// Compares the answers and every entry, also those in the margins.
     pub fn compared_by(&self, oracle: &Oracle, primes: &[Vec<Term>]) -> Result<Seen, String> {
         let before = noise(self.noise, self.lengths);
         let mut after = before.clone();
-        let engine_answer = engine::caught(|| engine::list(&self.table, self.capacity, &mut after));
+        let engine_answer = engine::caught(|| engine::list(self.listed, &self.table, self.capacity, &mut after));
         let mut lent = middles(&before);
         let answer = listing::list(oracle, primes, self.capacity, &mut lent);
         let expected = with_middles(&before, &lent);
-        same("list", engine_answer, Ok(answer))?;
+        same(self.operation(), engine_answer, Ok(answer))?;
         same_entries("counts", &after.counts, &expected.counts, MARGIN)?;
         same_entries("positive masks", &after.positives, &expected.positives, MARGIN)?;
         same_entries("negative masks", &after.negatives, &expected.negatives, MARGIN)?;
         Ok(match answer {
-            Ok(()) => ("list", u32::from(!primes.last().expect("a node").is_empty())),
-            Err(refusal) => ("list", refusal.number),
+            Ok(()) => (self.operation(), u32::from(!primes.last().expect("a node").is_empty())),
+            Err(refusal) => (self.operation(), refusal.number),
         })
     }
 }
@@ -75,7 +89,7 @@ impl Listing {
 impl Case for Listing {
     fn compared(&self) -> Result<Seen, String> {
         let oracle = Oracle::new(&self.table);
-        let primes = oracle.accepted().map(|accepted| accepted.primes()).unwrap_or_default();
+        let primes = oracle.accepted().map(|accepted| accepted.primes(self.listed)).unwrap_or_default();
         self.compared_by(&oracle, &primes)
     }
 
@@ -103,7 +117,8 @@ impl Case for Listing {
     }
 
     fn paste(&self) -> String {
-        format!("Listing::new({}, {}, {:?}, {})", paste_table(&self.table), self.capacity, self.lengths, self.noise)
+        let Listing { listed, table, capacity, lengths, noise } = self;
+        format!("Listing::new({listed:?}, {}, {capacity}, {lengths:?}, {noise})", paste_table(table))
     }
 
     fn notes(&self) -> String {

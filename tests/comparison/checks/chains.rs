@@ -3,17 +3,18 @@
 use super::listed::Listings;
 use crate::circuits;
 use crate::engine;
+use crate::oracle::function::Listed;
 use crate::oracle::listing::Buffers;
 use crate::oracle::table::{Node, Table};
 use crate::random::Random;
 use crate::tally::Tally;
 
 /// The rows of every node as the engine lists them: the masks of the variables marked yes and of those marked no.
-fn rows(table: &Table, capacity: u32) -> Vec<Vec<(u64, u64)>> {
+fn rows(listed: Listed, table: &Table, capacity: u32) -> Vec<Vec<(u64, u64)>> {
     let (nodes, capacity) = (table.nodes as usize, capacity as usize);
     let [rows, counts] = [nodes * capacity, nodes].map(|length| length + 2 * engine::MARGIN);
     let mut lists = Buffers { positives: vec![7; rows], negatives: vec![7; rows], counts: vec![7; counts] };
-    engine::list(table, capacity as u32, &mut lists).expect("room enough");
+    engine::list(listed, table, capacity as u32, &mut lists).expect("room enough");
     let Buffers { positives, negatives, counts } = &mut lists;
     let pairs: Vec<(u64, u64)> = engine::middle(positives).iter().copied().zip(engine::middle(negatives).iter().copied()).collect();
     let counts = engine::middle(counts);
@@ -37,33 +38,33 @@ fn two_child_tables_list_the_rows_they_listed() {
         conjunctions += nodes.iter().filter(|node| matches!(node, Node::Both(_))).count();
         let table = Table::of(variables, &nodes);
         let mut listings = Listings::new(format!("two children, seed {seed}"), &table, &mut tally);
-        let whole = listings.whole();
-        for capacity in [whole, whole.saturating_sub(1)] {
-            listings.list(capacity, listings.enough(capacity), seed);
-        }
+        listings.list_around(seed, |whole| [whole, whole.saturating_sub(1)]);
     }
     assert!(conjunctions > 5_000, "{conjunctions} conjunctions only");
-    tally.expect(&[("list", &[(0, 5), (1, 1_900), (42, 1_900)])]);
+    tally.expect(&[("list", &[(0, 5), (1, 1_900), (42, 1_900)]), ("list_negation", &[(0, 100), (1, 1_500), (42, 1_500)])]);
 }
 
 /// A conjunction of many children has the rows of a chain of conjunctions of two, and so has every node above it.
 #[test]
 fn a_conjunction_lists_the_rows_of_a_chain() {
-    let (mut wide, mut listed) = (0, 0);
+    let (mut wide, mut listed_rows) = (0, [0, 0]);
     for seed in 0..3_000 {
         let random = Random::of(0x7100_0000, seed);
         let variables = random.between(1, 8) as u32;
         let nodes = circuits::nodes(&random, variables);
         let (chained, places) = circuits::chained(&random, &nodes);
         let [one, chain] = [&nodes, &chained].map(|nodes| Table::of(variables, nodes));
-        let capacity = Listings::new(format!("chains, seed {seed}"), &one, &mut Tally::default()).whole();
-        let [of_one, of_chain] = [&one, &chain].map(|table| rows(table, capacity));
-        for (node, &place) in places.iter().enumerate() {
-            assert_eq!(of_one[node], of_chain[place as usize], "seed {seed}, node {node} of {nodes:?}");
+        let mut tally = Tally::default();
+        let listings = Listings::new(format!("chains, seed {seed}"), &one, &mut tally);
+        for listed in Listed::BOTH {
+            let [of_one, of_chain] = [&one, &chain].map(|table| rows(listed, table, listings.whole(listed)));
+            for (node, &place) in places.iter().enumerate() {
+                assert_eq!(of_one[node], of_chain[place as usize], "seed {seed}, {listed:?} of node {node} of {nodes:?}");
+            }
+            listed_rows[listed as usize] += of_one.iter().map(Vec::len).sum::<usize>();
         }
         wide += usize::from(is_wide(&nodes));
-        listed += of_one.iter().map(Vec::len).sum::<usize>();
     }
     assert!(wide > 1_000, "{wide} tables with a conjunction of many only");
-    assert!(listed > 50_000, "{listed} rows only");
+    assert!(listed_rows.iter().all(|&rows| rows > 40_000), "{listed_rows:?} clearances and blockers only");
 }

@@ -8,6 +8,7 @@ use crate::cases::writings::Writing;
 use crate::circuits;
 use crate::compare::compare;
 use crate::damage;
+use crate::oracle::function::Listed;
 use crate::oracle::table::{Node, Table, MOST_CHILDREN, NODE_WORDS};
 use crate::random::Random;
 use crate::tally::Tally;
@@ -35,7 +36,9 @@ fn every_operation(origin: &str, random: &Random, table: &Table, tally: &mut Tal
     let longer = random.position(3);
     let lengths =
         random.choose(&[[rows + longer, rows, (table.nodes as usize).min(60)], [rows, rows + longer, 70], [0, 0, 0], [9, 8, 7]]);
-    compare(origin, &Listing::new(table.clone(), capacity, lengths, random.next()), tally);
+    for listed in Listed::BOTH {
+        compare(origin, &Listing::new(listed, table.clone(), capacity, lengths, random.next()), tally);
+    }
     let sink = random.choose(&[0, 40, 400, 4_000, random.position(300)]);
     compare(origin, &Writing::new(table.clone(), sink), tally);
 }
@@ -49,7 +52,7 @@ fn damaged_tables() {
         every_operation(&format!("damaged, seed {seed}"), &random, &table, &mut tally);
     }
     let refusals: &[(u32, u64)] = &[(21, 1_000), (22, 3_000), (23, 3_000), (24, 1_000), (25, 200)];
-    let operations = ["check", "evaluate", "count", "implies", "prime", "reduce", "list"];
+    let operations = ["check", "evaluate", "count", "implies", "prime", "reduce", "list", "list_negation"];
     tally.expect(&operations.map(|operation| (operation, refusals)));
     tally.expect(&[
         ("check", &[(0, 5_000)]),
@@ -57,6 +60,7 @@ fn damaged_tables() {
         ("prime", &[(0, 500), (1, 50), (32, 200)]),
         ("reduce", &[(1, 500), (31, 200), (33, 500)]),
         ("list", &[(1, 500), (41, 500), (42, 500)]),
+        ("list_negation", &[(0, 500), (1, 500), (41, 500), (42, 500)]),
         ("write", &[(1, 5_000), (16, 5_000), (21, 1_000), (22, 3_000)]),
     ]);
 }

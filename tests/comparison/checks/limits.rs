@@ -7,6 +7,7 @@ use crate::cases::readings::Reading;
 use crate::cases::writings::Writing;
 use crate::circuits;
 use crate::compare::compare;
+use crate::oracle::function::Listed;
 use crate::oracle::table::{Table, MOST_CHILDREN, MOST_NODES, NODE_WORDS};
 use crate::oracle::text::MOST_BYTES;
 use crate::random::Random;
@@ -27,11 +28,14 @@ fn largest_work(seed: u64) -> u64 {
     for question in [Check, Count, Evaluate(7), Implies(0, 0), Prime(0, 0), Reduce(0), Reduce((1 << 40) - 1)] {
         compare("limits", &Asked::new(table.clone(), question), &mut tally);
     }
-    compare("limits", &Listing::new(table.clone(), 300, [307_200, 307_200, 1_024], seed), &mut tally);
-    compare("limits", &Writing::new(table, MOST_BYTES), &mut tally);
     let (variables, clauses) = circuits::clauses(6, 4);
-    let rows = 4_096 * clauses.len();
-    compare("limits", &Listing::new(Table::of(variables, &clauses), 4_096, [rows, rows, clauses.len()], seed), &mut tally);
+    let [clauses, parity] = [(variables, clauses), (13, circuits::parity(13))].map(|(variables, nodes)| Table::of(variables, &nodes));
+    for listed in Listed::BOTH {
+        for (table, capacity) in [(&table, 300), (&clauses, 4_096), (&parity, 4_096)] {
+            compare("limits", &Listing::fitting(listed, table.clone(), capacity, seed), &mut tally);
+        }
+    }
+    compare("limits", &Writing::new(table, MOST_BYTES), &mut tally);
     for depth in [16, 17, 3_000] {
         compare("limits", &Reading::new(texts::deep(&random, depth).as_bytes(), MOST_WORDS), &mut tally);
     }
@@ -44,7 +48,7 @@ fn largest_work(seed: u64) -> u64 {
 fn within_the_stated_stack() {
     let small = std::thread::Builder::new().stack_size(STATED_STACK + OWN_STACK);
     let compared = small.spawn(|| largest_work(0x6000_0000)).expect("a thread").join();
-    assert_eq!(compared.expect("no difference"), 14);
+    assert_eq!(compared.expect("no difference"), 18);
 }
 
 #[test]
@@ -52,7 +56,7 @@ fn several_threads_at_once() {
     let threads: Vec<_> =
         (0..4).map(|seed| std::thread::spawn(move || (0..3).map(|more| largest_work(8 * seed + more)).sum::<u64>())).collect();
     let compared: u64 = threads.into_iter().map(|thread| thread.join().expect("no difference")).sum();
-    assert_eq!(compared, 4 * 3 * 14);
+    assert_eq!(compared, 4 * 3 * 18);
 }
 
 /// The wrapper's limits are those that the oracle has from the papers.

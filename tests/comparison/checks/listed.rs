@@ -4,36 +4,38 @@ use crate::cases::listings::{Listing, View};
 use crate::circuits;
 use crate::compare::{compare, fail, trace};
 use crate::oracle::answers::Oracle;
-use crate::oracle::function::Term;
+use crate::oracle::function::{Listed, Term};
 use crate::oracle::table::Table;
 use crate::random::Random;
 use crate::tally::Tally;
 
-/// One table with its clearances, listed in many ways.
+/// One table with its clearances and its blockers, listed in many ways.
 pub struct Listings<'a> {
-    pub origin: String,
-    pub table: &'a Table,
-    pub oracle: Oracle,
-    pub primes: Vec<Vec<Term>>,
-    pub tally: &'a mut Tally,
+    origin: String,
+    table: &'a Table,
+    oracle: Oracle,
+    /// By the kind of rows, then by node.
+    primes: [Vec<Vec<Term>>; 2],
+    tally: &'a mut Tally,
 }
 
 impl<'a> Listings<'a> {
     pub fn new(origin: String, table: &'a Table, tally: &'a mut Tally) -> Listings<'a> {
         let oracle = Oracle::new(table);
-        let primes = oracle.accepted().expect("the generator makes accepted tables").primes();
+        let accepted = oracle.accepted().expect("the generator makes accepted tables");
+        let primes = Listed::BOTH.map(|listed| accepted.primes(listed));
         Listings { origin, table, oracle, primes, tally }
     }
 
-    /// How many clearances the circuit has.
-    pub fn whole(&self) -> u32 {
-        self.primes.last().expect("a node").len() as u32
+    /// How many clearances, or blockers, the circuit has.
+    pub fn whole(&self, listed: Listed) -> u32 {
+        self.primes[listed as usize].last().expect("a node").len() as u32
     }
 
-    pub fn list(&mut self, capacity: u32, lengths: [usize; 3], noise: u64) {
-        let case = Listing::new(self.table.clone(), capacity, lengths, noise);
+    pub fn list(&mut self, listed: Listed, capacity: u32, lengths: [usize; 3], noise: u64) {
+        let case = Listing::new(listed, self.table.clone(), capacity, lengths, noise);
         trace(&self.origin, || case.clone());
-        match case.compared_by(&self.oracle, &self.primes) {
+        match case.compared_by(&self.oracle, &self.primes[listed as usize]) {
             Ok(seen) => self.tally.see(seen),
             Err(_) => fail(&self.origin, &case),
         }
@@ -45,22 +47,31 @@ impl<'a> Listings<'a> {
         [rows, rows, self.table.nodes as usize]
     }
 
+    /// Both listings, each at some capacities made from the number of its own rows, with buffers just enough.
+    pub fn list_around<const K: usize>(&mut self, noise: u64, capacities: impl Fn(u32) -> [u32; K]) {
+        for listed in Listed::BOTH {
+            for capacity in capacities(self.whole(listed)) {
+                self.list(listed, capacity, self.enough(capacity), noise);
+            }
+        }
+    }
+
     /// Buffers that are just enough, longer by different lengths, and one of them too short by one or by more.
-    fn list_with_all_lengths(&mut self, random: &Random, capacity: u32) {
+    fn list_with_all_lengths(&mut self, random: &Random, listed: Listed, capacity: u32) {
         let enough = self.enough(capacity);
-        self.list(capacity, enough, random.next());
-        self.list(capacity, enough.map(|length| length + random.position(9)), random.next());
+        self.list(listed, capacity, enough, random.next());
+        self.list(listed, capacity, enough.map(|length| length + random.position(9)), random.next());
         let mut short = enough.map(|length| length + random.position(3));
         let buffer = random.position(3);
         short[buffer] = enough[buffer].saturating_sub(random.choose(&[1, 1, 1 + random.position(enough[buffer].max(1))]));
-        self.list(capacity, short, random.next());
+        self.list(listed, capacity, short, random.next());
     }
 
     /// The views of all nodes, and some that are out of range.
-    fn view(&mut self, random: &Random, capacity: u32) {
+    fn view(&mut self, random: &Random, listed: Listed, capacity: u32) {
         let length = self.enough(capacity)[0] + random.position(3);
-        for node in 0..self.primes.len() as u32 {
-            let count = self.primes[node as usize].len() as u32;
+        for node in 0..self.table.nodes {
+            let count = self.primes[listed as usize][node as usize].len() as u32;
             compare(&self.origin, &View::new(length, capacity, node, count), self.tally);
         }
         for _ in 0..10 {
@@ -71,20 +82,20 @@ impl<'a> Listings<'a> {
     }
 }
 
-fn list_everything(listings: &mut Listings, random: &Random) {
-    let whole = listings.whole();
+fn list_everything(listings: &mut Listings, random: &Random, listed: Listed) {
+    let whole = listings.whole(listed);
     for capacity in [0, whole, whole.saturating_sub(1), whole + 1] {
-        listings.list_with_all_lengths(random, capacity);
-        listings.view(random, capacity);
+        listings.list_with_all_lengths(random, listed, capacity);
+        listings.view(random, listed, capacity);
     }
     if random.once_in(40) {
         for capacity in [4096, 4097] {
-            listings.list_with_all_lengths(random, capacity);
-            listings.view(random, capacity);
+            listings.list_with_all_lengths(random, listed, capacity);
+            listings.view(random, listed, capacity);
         }
     }
     let above = random.choose(&[4097, 5000, 1 << 31, u32::MAX]);
-    listings.list(above, [random.position(99), random.position(99), random.position(99)], random.next());
+    listings.list(listed, above, [random.position(99), random.position(99), random.position(99)], random.next());
 }
 
 #[test]
@@ -94,9 +105,14 @@ fn listings_of_accepted_tables() {
         let random = Random::of(0xb000_0000, seed);
         let variables = random.between(1, 8) as u32;
         let table = circuits::table(&random, variables);
-        list_everything(&mut Listings::new(format!("listings, seed {seed}"), &table, &mut tally), &random);
+        let mut listings = Listings::new(format!("listings, seed {seed}"), &table, &mut tally);
+        Listed::BOTH.iter().for_each(|&listed| list_everything(&mut listings, &random, listed));
     }
-    tally.expect(&[("list", &[(0, 30), (1, 10_000), (41, 10_000), (42, 5_000)]), ("view", &[(0, 20_000), (1, 20_000)])]);
+    tally.expect(&[
+        ("list", &[(0, 30), (1, 10_000), (41, 10_000), (42, 5_000)]),
+        ("list_negation", &[(0, 1_000), (1, 10_000), (41, 10_000), (42, 5_000)]),
+        ("view", &[(0, 40_000), (1, 40_000)]),
+    ]);
 }
 
 /// A view of buffers of all lengths around what a node needs.

@@ -5,6 +5,7 @@ mod damaged;
 mod limits;
 mod lines;
 mod listed;
+mod negations;
 mod oracle;
 mod papers;
 mod questions;

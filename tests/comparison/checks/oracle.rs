@@ -3,7 +3,7 @@
 use crate::circuits;
 use crate::damage;
 use crate::oracle::answers::Oracle;
-use crate::oracle::function::{is_prime, Functions, Term};
+use crate::oracle::function::{is_prime, Functions, Listed, Term};
 use crate::oracle::table::{Node, Table};
 use crate::oracle::{grammar, rows, text, writer};
 use crate::random::Random;
@@ -19,7 +19,9 @@ fn trying_out_and_counting_agree() {
         for _ in 0..50 {
             let (assignment, marks) = (random.next(), random.next() & ((1 << variables) - 1));
             let term = Term { positive: assignment & marks, negative: !assignment & marks };
-            assert_eq!(accepted.implies(term), accepted.implies_by_counting(term), "seed {seed}, {term:?}");
+            for value in [false, true] {
+                assert_eq!(accepted.forces(term, value), accepted.forces_by_counting(term, value), "seed {seed}, {term:?}, {value}");
+            }
         }
     }
 }
@@ -32,30 +34,58 @@ fn all_rows_and_single_rows_agree() {
         let variables = random.between(1, 5) as u32;
         let oracle = Oracle::new(&circuits::table(&random, variables));
         let accepted = oracle.accepted().expect("accepted");
-        let primes = accepted.primes().pop().expect("a node");
-        for positive in 0..1u64 << variables {
-            for negative in (0..1u64 << variables).filter(|negative| negative & positive == 0) {
-                let term = Term { positive, negative };
-                assert_eq!(primes.contains(&term), is_prime(term, |term| accepted.implies(term)), "seed {seed}, {term:?}");
+        for listed in Listed::BOTH {
+            let primes = accepted.primes(listed).pop().expect("a node");
+            for positive in 0..1u64 << variables {
+                for negative in (0..1u64 << variables).filter(|negative| negative & positive == 0) {
+                    let term = Term { positive, negative };
+                    let prime = is_prime(term, |term| accepted.forces(term, listed.value()));
+                    assert_eq!(primes.contains(&term), prime, "seed {seed}, {listed:?}, {term:?}");
+                }
             }
         }
     }
 }
 
-/// The clearances of every node.
-fn primes(variables: u32, nodes: &[Node]) -> Vec<Vec<Term>> {
-    Oracle::new(&Table::of(variables, nodes)).accepted().expect("accepted").primes()
+/// Each clearance and each blocker disagree on a variable; each assignment agrees with a clearance where it is allowed, and else with
+/// a blocker.
+#[test]
+fn clearances_and_blockers_disagree() {
+    for seed in 0..500 {
+        let random = Random::of(0x2100, seed);
+        let variables = random.between(1, 8) as u32;
+        let oracle = Oracle::new(&circuits::table(&random, variables));
+        let accepted = oracle.accepted().expect("accepted");
+        let [clearances, blockers] = Listed::BOTH.map(|listed| accepted.primes(listed).pop().expect("a node"));
+        for a in &clearances {
+            let disagree = |b: &Term| a.positive & b.negative | a.negative & b.positive != 0;
+            assert!(blockers.iter().all(disagree), "seed {seed}, {a:?}");
+        }
+        for assignment in 0..1 << variables {
+            let some = |rows: &[Term]| rows.iter().any(|row| row.agrees_with(assignment));
+            let allowed = accepted.allows(assignment);
+            assert_eq!((some(&clearances), some(&blockers)), (allowed, !allowed), "seed {seed}, {assignment:b}");
+        }
+    }
 }
 
-/// The rows of a conjunction over many variables, joined from its children's, are those that trying every row finds.
+/// The clearances, or blockers, of every node.
+fn primes(listed: Listed, variables: u32, nodes: &[Node]) -> Vec<Vec<Term>> {
+    Oracle::new(&Table::of(variables, nodes)).accepted().expect("accepted").primes(listed)
+}
+
+/// The rows of a conjunction over many variables, made from its children's, are those that trying every row finds.
 #[test]
-fn joined_rows_and_tried_rows_agree() {
+fn rows_of_parts_and_tried_rows_agree() {
     for seed in 0..60 {
         let random = Random::of(0x3000, seed);
         let variables = random.between(9, 11) as u32;
         let nodes = circuits::parted(&random, variables);
         let tried = Functions::new(variables, &nodes).expect("few variables");
-        assert_eq!(primes(variables, &nodes).pop(), Some(rows::primes(tried.whole(), &tried.tried)), "seed {seed}");
+        for listed in Listed::BOTH {
+            let of_whole = rows::primes(&listed.function(tried.whole()), &tried.tried);
+            assert_eq!(primes(listed, variables, &nodes).pop(), Some(of_whole), "seed {seed}, {listed:?}");
+        }
     }
 }
 
@@ -66,9 +96,11 @@ fn conjunctions_and_chains_agree() {
         let variables = random.between(1, 8) as u32;
         let nodes = circuits::nodes(&random, variables);
         let (chained, places) = circuits::chained(&random, &nodes);
-        let of_chain = primes(variables, &chained);
-        for (of_node, place) in primes(variables, &nodes).iter().zip(places) {
-            assert_eq!(*of_node, of_chain[place as usize], "seed {seed}");
+        for listed in Listed::BOTH {
+            let of_chain = primes(listed, variables, &chained);
+            for (of_node, &place) in primes(listed, variables, &nodes).iter().zip(&places) {
+                assert_eq!(*of_node, of_chain[place as usize], "seed {seed}, {listed:?}");
+            }
         }
     }
 }

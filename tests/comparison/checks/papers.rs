@@ -1,11 +1,15 @@
-//! The table P1 to P12 and the worked example, by both sides: the answers stand here as the scope gives them.
+//! The table P1 to P12, the worked example and a conjunction of three, by both sides: the answers stand here as the scope gives them,
+//! and the blockers and the conjunction as worked out by hand from the definitions.
 
 use crate::cases::listings::Listing;
 use crate::cases::questions::Asked;
 use crate::cases::questions::Question::{Check, Count};
 use crate::cases::readings::Reading;
 use crate::compare::{compare, Case};
+use crate::engine;
 use crate::oracle::answers::Oracle;
+use crate::oracle::function::Listed;
+use crate::oracle::function::Listed::{Blockers, Clearances};
 use crate::oracle::table::{Table, NODE_WORDS};
 use crate::oracle::{text, Refused};
 use crate::tally::Tally;
@@ -13,38 +17,43 @@ use crate::tally::Tally;
 /// The words that the program lends.
 const WORDS: usize = 704;
 
-/// What the scope says of a circuit.
+/// Rows in order, `+` yes and `-` no.
+type Rows = &'static [&'static str];
+
+/// What is known of a circuit.
 struct Known {
     text: &'static str,
-    /// The number of models and the rows, `+` yes and `-` no; or the check's refusal.
-    answer: Result<(u64, &'static [&'static str]), Refused>,
+    /// The number of models, the clearances and the blockers; or the check's refusal.
+    answer: Result<(u64, [Rows; 2]), Refused>,
 }
 
-const fn accepted(text: &'static str, models: u64, rows: &'static [&'static str]) -> Known {
-    Known { text, answer: Ok((models, rows)) }
+const fn accepted(text: &'static str, models: u64, clearances: Rows, blockers: Rows) -> Known {
+    Known { text, answer: Ok((models, [clearances, blockers])) }
 }
 
 const fn refused(text: &'static str, number: u32, place: u64) -> Known {
     Known { text, answer: Err(Refused { number, place }) }
 }
 
-const KNOWN: [Known; 12] = [
-    accepted("(circuit 1)\n(false)\n", 0, &[]),
-    accepted("(circuit 1)\n(true)\n", 2, &[""]),
-    accepted("(circuit 1)\n(pick 0 (true) (true))\n", 2, &[""]),
-    accepted("(circuit 2)\n(both (yes 0) (no 1))\n", 1, &["+0 -1"]),
+const KNOWN: [Known; 13] = [
+    accepted("(circuit 1)\n(false)\n", 0, &[], &[""]),
+    accepted("(circuit 1)\n(true)\n", 2, &[""], &[]),
+    accepted("(circuit 1)\n(pick 0 (true) (true))\n", 2, &[""], &[]),
+    accepted("(circuit 2)\n(both (yes 0) (no 1))\n", 1, &["+0 -1"], &["-0", "+1"]),
     refused("(circuit 1)\n(both (yes 0) (no 0))\n", 24, 2),
     refused("(circuit 1)\n(pick 0 (yes 0) (true))\n", 24, 2),
     refused("(circuit 1)\n(pick 0 (false) (false))\n", 25, 2),
     refused("(circuit 1)\n(yes 0)\n(no 0)\n", 23, 0),
-    accepted("(circuit 3)\n(pick 0 (no 1) (pick 1 (yes 2) (true)))\n", 5, &["-0 -1", "+0 +1", "+0 +2", "-1 +2"]),
-    accepted("(circuit 4)\n(pick 3 (true) (yes 2))\n", 12, &["+2", "-3"]),
-    accepted("(circuit 4)\n(pick 0 (pick 3 (true) (yes 2)) (no 2))\n", 10, &["+0 -2", "-0 +2", "-0 -3", "-2 -3"]),
+    accepted("(circuit 3)\n(pick 0 (no 1) (pick 1 (yes 2) (true)))\n", 5, &["-0 -1", "+0 +1", "+0 +2", "-1 +2"], &["-0 +1", "+0 -1 -2"]),
+    accepted("(circuit 4)\n(pick 3 (true) (yes 2))\n", 12, &["+2", "-3"], &["-2 +3"]),
+    accepted("(circuit 4)\n(pick 0 (pick 3 (true) (yes 2)) (no 2))\n", 10, &["+0 -2", "-0 +2", "-0 -3", "-2 -3"], &["+0 +2", "-0 -2 +3"]),
     accepted(
         "(circuit 4)\n(pick 1 (pick 0 (pick 3 (true) (yes 2)) (no 2)) (both (no 2) (no 3)))\n",
         7,
         &["-2 -3", "+0 -1 -2", "-0 -1 +2", "-0 -1 -3"],
+        &["+0 +2", "+1 +2", "+1 +3", "-0 -2 +3"],
     ),
+    accepted("(circuit 4)\n(both (no 1) (pick 0 (yes 2) (true)) (yes 3))\n", 3, &["+0 -1 +3", "-1 +2 +3"], &["+1", "-3", "-0 -2"]),
 ];
 
 fn row(positive: u64, negative: u64) -> String {
@@ -60,7 +69,16 @@ fn same_on_both_sides(case: impl Case) {
     compare("papers", &case, &mut Tally::default());
 }
 
-/// The engine alone against the scope; the table as read.
+/// The rows of the last node as the engine lists them, in so much room.
+fn rows_of_engine(listed: Listed, lent: quelbrift::Table, capacity: u32) -> Result<Vec<String>, quelbrift::Refusal> {
+    let (nodes, length) = (lent.nodes as usize, (lent.nodes * capacity) as usize);
+    let (mut positives, mut negatives, mut counts) = (vec![7; length], vec![7; length], vec![7; nodes]);
+    engine::listing(listed)(lent, capacity, &mut positives, &mut negatives, &mut counts)?;
+    let last = |buffer| quelbrift::view(buffer, capacity, lent.nodes - 1, counts[nodes - 1]);
+    Ok(last(&positives).iter().zip(last(&negatives)).map(|(positive, negative)| row(*positive, *negative)).collect())
+}
+
+/// The engine alone against what is known; the table as read.
 fn engine_against_paper(known: &Known) -> Table {
     let mut words = vec![0; WORDS];
     let (variables, nodes) = quelbrift::read(known.text.as_bytes(), &mut words).expect("read");
@@ -73,18 +91,16 @@ fn engine_against_paper(known: &Known) -> Table {
         }
         Ok((models, rows)) => {
             assert_eq!(quelbrift::count_models(lent), Ok(models), "{}", known.text);
-            let (length, capacity) = (nodes as usize * rows.len(), rows.len() as u32);
-            let (mut positives, mut negatives, mut counts) = (vec![7; length], vec![7; length], vec![7; nodes as usize]);
-            quelbrift::list(lent, capacity, &mut positives, &mut negatives, &mut counts).expect("listed");
-            let last = |buffer| quelbrift::view(buffer, capacity, nodes - 1, counts[nodes as usize - 1]);
-            let pairs = last(&positives).iter().zip(last(&negatives));
-            assert_eq!(pairs.map(|(positive, negative)| row(*positive, *negative)).collect::<Vec<_>>(), rows, "{}", known.text);
+            for (listed, rows) in Listed::BOTH.into_iter().zip(rows) {
+                let of_engine = rows_of_engine(listed, lent, rows.len() as u32);
+                assert_eq!(of_engine.expect("listed"), rows, "{listed:?} of {}", known.text);
+            }
         }
     }
     table
 }
 
-/// The oracle alone against the scope.
+/// The oracle alone against what is known.
 fn oracle_against_paper(known: &Known, table: &Table) {
     let mut words = vec![9; table.words.len()];
     assert_eq!(text::read(known.text.as_bytes(), &mut words), Ok((table.variables, table.nodes)), "{}", known.text);
@@ -94,9 +110,11 @@ fn oracle_against_paper(known: &Known, table: &Table) {
         Err(refusal) => assert_eq!(oracle.accepted().err(), Some(refusal), "{}", known.text),
         Ok((models, rows)) => {
             assert_eq!(oracle.count_models(), Ok(models), "{}", known.text);
-            let primes = oracle.accepted().expect("accepted").primes();
-            let last = primes.last().expect("a node").iter().map(|term| row(term.positive, term.negative));
-            assert_eq!(last.collect::<Vec<_>>(), rows, "{}", known.text);
+            for (listed, rows) in Listed::BOTH.into_iter().zip(rows) {
+                let last = oracle.accepted().expect("accepted").primes(listed).pop().expect("a node");
+                let of_oracle = last.iter().map(|term| row(term.positive, term.negative));
+                assert_eq!(of_oracle.collect::<Vec<_>>(), rows, "{listed:?} of {}", known.text);
+            }
         }
     }
 }
@@ -109,21 +127,26 @@ fn circuits_of_the_papers() {
         same_on_both_sides(Reading::new(known.text.as_bytes(), WORDS));
         same_on_both_sides(Asked::new(table.clone(), Check));
         same_on_both_sides(Asked::new(table.clone(), Count));
-        for capacity in 0..6 {
+        for (listed, capacity) in Listed::BOTH.into_iter().flat_map(|listed| (0..6).map(move |capacity| (listed, capacity))) {
             let rows = (table.nodes * capacity) as usize;
-            same_on_both_sides(Listing::new(table.clone(), capacity, [rows, rows + 1, table.nodes as usize], 5));
+            same_on_both_sides(Listing::new(listed, table.clone(), capacity, [rows, rows + 1, table.nodes as usize], 5));
         }
     }
 }
 
-/// P1 with no room is listed, P2 with no room and P9 with room for three are refused.
+/// With no room the clearances of P1 are listed and those of P2 refused, the blockers the other way round; P9 has room for three
+/// blockers where its four clearances are refused.
 #[test]
 fn capacities_of_the_papers() {
-    for (known, capacity, refusal) in [(0, 0, None), (1, 0, Some(42)), (8, 3, Some(42)), (8, 4, None)] {
-        let table = engine_against_paper(&KNOWN[known]);
-        let rows = (table.nodes * capacity) as usize;
-        let (mut positives, mut negatives, mut counts) = (vec![1; rows], vec![1; rows], vec![1; table.nodes as usize]);
-        let answer = quelbrift::list(crate::engine::lent(&table), capacity, &mut positives, &mut negatives, &mut counts);
-        assert_eq!(answer.err().map(|refusal| (refusal.number, refusal.place)), refusal.map(|number| (number, 0)));
+    let capacities = [
+        (Clearances, [(0, 0, None), (1, 0, Some(42)), (8, 3, Some(42)), (8, 4, None)]),
+        (Blockers, [(0, 0, Some(42)), (1, 0, None), (8, 1, Some(42)), (8, 3, None)]),
+    ];
+    for (listed, calls) in capacities {
+        for (known, capacity, refusal) in calls {
+            let table = engine_against_paper(&KNOWN[known]);
+            let refused = rows_of_engine(listed, engine::lent(&table), capacity).err();
+            assert_eq!(refused.map(|refusal| (refusal.number, refusal.place)), refusal.map(|number| (number, 0)));
+        }
     }
 }

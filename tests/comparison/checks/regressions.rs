@@ -6,6 +6,7 @@ use crate::cases::questions::Question::{Check, Count, Evaluate, Implies, Prime, 
 use crate::cases::readings::{Line, Reading};
 use crate::cases::writings::Writing;
 use crate::compare::{compare, Case};
+use crate::oracle::function::Listed::{Blockers, Clearances};
 use crate::oracle::table::{Node, Table};
 use crate::tally::Tally;
 
@@ -23,8 +24,10 @@ fn regressions() {
     for question in [Check, Evaluate(5), Count, Implies(4, 2), Prime(4, 2), Reduce(7)] {
         again(Asked::new(worked(), question));
     }
-    again(Listing::new(worked(), 4, [20, 20, 5], 1));
-    again(Listing::new(worked(), 3, [15, 15, 5], 1));
+    again(Listing::new(Clearances, worked(), 4, [20, 20, 5], 1));
+    again(Listing::new(Clearances, worked(), 3, [15, 15, 5], 1));
+    again(Listing::new(Blockers, worked(), 2, [10, 10, 5], 1));
+    again(Listing::new(Blockers, worked(), 1, [5, 5, 5], 1));
     again(Writing::new(worked(), 100));
     again(View::new(20, 4, 4, 4));
     again(Reading::new(b"(circuit 3)\n(pick 0 (no 1) (pick 1 (yes 2) (true)))\n", 55));

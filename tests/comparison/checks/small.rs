@@ -45,11 +45,7 @@ fn every_operation(table: &Table, random: &Random, tally: &mut Tally) {
         return questioning.ask(Check);
     }
     ask_everything(&mut questioning, random);
-    let mut listings = Listings::new("small".to_string(), table, tally);
-    let whole = listings.whole();
-    for capacity in [whole, whole.saturating_sub(1)] {
-        listings.list(capacity, listings.enough(capacity), 1);
-    }
+    Listings::new("small".to_string(), table, tally).list_around(1, |whole| [whole, whole.saturating_sub(1)]);
 }
 
 #[test]
@@ -58,7 +54,11 @@ fn every_small_table() {
     for (variables, most, children) in [(1, 5, 2), (1, 4, 3), (2, 4, 3), (3, 4, 2)] {
         every_table(variables, &[], most, children, &mut |table| every_operation(table, &random, &mut tally));
     }
-    tally.expect(&[("check", &[(0, 5_000), (23, 50_000), (24, 5_000), (25, 1_000)]), ("list", &[(0, 6), (1, 5_000), (42, 5_000)])]);
+    tally.expect(&[
+        ("check", &[(0, 5_000), (23, 50_000), (24, 5_000), (25, 1_000)]),
+        ("list", &[(0, 6), (1, 5_000), (42, 5_000)]),
+        ("list_negation", &[(0, 1_000), (1, 5_000), (42, 5_000)]),
+    ]);
 }
 
 /// Every conjunction of two to eight of a few nodes.
@@ -78,5 +78,9 @@ fn every_conjunction() {
             every_operation(&table, &random, &mut tally);
         }
     }
-    tally.expect(&[("check", &[(0, 100), (23, 1_000), (24, 10_000), (25, 1_000)]), ("list", &[(1, 100), (42, 100)])]);
+    tally.expect(&[
+        ("check", &[(0, 100), (23, 1_000), (24, 10_000), (25, 1_000)]),
+        ("list", &[(1, 100), (42, 100)]),
+        ("list_negation", &[(1, 100), (42, 100)]),
+    ]);
 }

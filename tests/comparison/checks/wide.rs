@@ -1,9 +1,10 @@
-//! Up to 40 variables, up to 1,024 nodes, and up to 4,096 clearances and more.
+//! Up to 40 variables, up to 1,024 nodes, and up to 4,096 clearances or blockers and more.
 
 use super::listed::Listings;
 use super::questions::Questioning;
 use crate::cases::questions::Question::{Check, Count};
 use crate::circuits::{self, Part};
+use crate::oracle::function::Listed;
 use crate::oracle::table::{Node, Table, MOST_CHILDREN};
 use crate::random::Random;
 use crate::tally::Tally;
@@ -19,10 +20,7 @@ fn scattered_variables() {
         let table = Table::of(variables, &circuits::scattered(&random, &nodes, variables));
         let origin = format!("scattered, seed {seed}");
         ask_randomly(&mut Questioning::new(origin.clone(), &table, &mut tally), &random, 10);
-        let mut listings = Listings::new(origin, &table, &mut tally);
-        for capacity in [listings.whole(), listings.whole().saturating_sub(1), listings.whole() + 2] {
-            listings.list(capacity, listings.enough(capacity), seed);
-        }
+        Listings::new(origin, &table, &mut tally).list_around(seed, |whole| [whole, whole.saturating_sub(1), whole + 2]);
     }
     tally.expect(&[
         ("count", &[(1, 2_500)]),
@@ -31,6 +29,7 @@ fn scattered_variables() {
         ("prime", &[(0, 5_000), (1, 5_000), (32, 5_000)]),
         ("reduce", &[(1, 5_000), (31, 1_000), (33, 5_000)]),
         ("list", &[(1, 4_000), (42, 2_000)]),
+        ("list_negation", &[(0, 500), (1, 4_000), (42, 2_000)]),
     ]);
 }
 
@@ -72,33 +71,35 @@ fn many_variables_and_nodes() {
     ]);
 }
 
-/// Lists at these capacities; how many clearances the circuit has.
-fn list_around(name: &str, variables: u32, nodes: &[Node], capacities: &[u32], tally: &mut Tally) -> u32 {
-    let table = Table::of(variables, nodes);
-    let mut listings = Listings::new(name.to_string(), &table, tally);
-    for &capacity in capacities {
-        listings.list(capacity, listings.enough(capacity), u64::from(capacity));
-    }
-    listings.whole()
-}
-
-/// As many clearances as a listing can hold, one too many for the room, and more than any listing holds.
+/// As many clearances or blockers as a listing can hold, one too many for the room, and more than any listing holds.
 #[test]
 fn long_listings() {
     let mut tally = Tally::default();
-    let odd = 0xaaaa_aaaa;
-    assert_eq!(list_around("parity of 13", 13, &circuits::symmetric(13, odd), &[4096, 4095], &mut tally), 4096);
-    assert_eq!(list_around("parity of 12", 12, &circuits::symmetric(12, odd), &[2048, 2047], &mut tally), 2048);
-    assert_eq!(list_around("3 to 6 of 9", 9, &circuits::symmetric(9, 0b111_1000), &[1680, 1679], &mut tally), 1680);
-    assert_eq!(list_around("3 to 7 of 10", 10, &circuits::symmetric(10, 0b1111_1000), &[4096], &mut tally), 4200);
-    let mut clauses = |number: usize, size: u32, capacities: &[u32]| {
-        let (variables, nodes) = circuits::clauses(number, size);
-        list_around(&format!("{number} clauses of {size}"), variables, &nodes, capacities, &mut tally)
+    let symmetric = |variables: u32, numbers: u64| (variables, circuits::symmetric(variables, numbers));
+    // The conjunction of a circuit with itself over other variables, so that rows of the two come in turn.
+    let twice = |part: Part| {
+        let (variables, nodes) = circuits::conjunction(&[part.clone(), part]);
+        (variables, circuits::scattered(&Random::of(0x4500_0000, 0), &nodes, variables))
     };
-    assert_eq!(clauses(8, 2, &[256, 255]), 256);
-    assert_eq!(clauses(6, 4, &[4096, 4095]), 4096);
-    assert_eq!(clauses(8, 3, &[4096]), 6561);
-    tally.expect(&[("list", &[(1, 5), (42, 7)])]);
+    for (name, (variables, nodes), wholes) in [
+        ("parity of 13", (13, circuits::parity(13)), [4096, 4096]),
+        ("parity of 12", (12, circuits::parity(12)), [2048, 2048]),
+        ("3 to 6 of 9", symmetric(9, 0b111_1000), [1680, 72]),
+        ("not 3 to 6 of 9", symmetric(9, !0b111_1000), [72, 1680]),
+        ("3 to 7 of 10", symmetric(10, 0b1111_1000), [4200, 90]),
+        ("not 3 to 7 of 10", symmetric(10, !0b1111_1000), [90, 4200]),
+        ("8 clauses of 2", circuits::clauses(8, 2), [256, 8]),
+        ("6 clauses of 4", circuits::clauses(6, 4), [4096, 6]),
+        ("8 clauses of 3", circuits::clauses(8, 3), [6561, 8]),
+        ("4 cubes of 3", circuits::cubes(4, 3), [4, 81]),
+        ("not 3 to 6 of two times 9", twice(symmetric(9, !0b111_1000)), [5184, 3360]),
+    ] {
+        let table = Table::of(variables, &nodes);
+        let mut listings = Listings::new(name.to_string(), &table, &mut tally);
+        assert_eq!(Listed::BOTH.map(|listed| listings.whole(listed)), wholes, "{name}");
+        listings.list_around(1, |whole| [whole, whole - 1].map(|capacity| capacity.min(4_096)));
+    }
+    tally.expect(&[("list", &[(1, 8), (42, 14)]), ("list_negation", &[(1, 10), (42, 12)])]);
 }
 
 /// Circuits that are not `false`, over up to 40 variables in all; at least two.
@@ -122,34 +123,34 @@ fn grouped(random: &Random, mut parts: Vec<Part>) -> Vec<Node> {
     parts.remove(0).1
 }
 
-/// Conjunctions of circuits over different variables, up to 40 in all: the clearances are those of the parts, joined.
+/// Conjunctions of circuits over different variables, up to 40 in all: the clearances are those of the parts, joined, and the blockers
+/// those of each.
 #[test]
 fn conjunctions() {
     let mut tally = Tally::default();
-    let (mut longest, mut eight) = (0, 0);
+    let (mut longest, mut eight) = ([0, 0], 0);
     for seed in 0..150 {
         let random = Random::of(0x4200_0000, seed);
         let nodes = grouped(&random, parts(&random));
         let table = Table::of(40, &circuits::scattered(&random, &nodes, 40));
         let mut listings = Listings::new(format!("conjunctions, seed {seed}"), &table, &mut tally);
-        let whole = listings.whole();
-        let capacities = [whole, whole.saturating_sub(1), 64];
-        for capacity in capacities.map(|capacity| capacity.min(4_096)) {
-            listings.list(capacity, listings.enough(capacity), seed);
+        listings.list_around(seed, |whole| [whole, whole.saturating_sub(1), 64].map(|capacity| capacity.min(4_096)));
+        for listed in Listed::BOTH {
+            let whole = listings.whole(listed);
+            longest[listed as usize] = longest[listed as usize].max(if whole <= 4_096 { whole } else { 0 });
         }
-        longest = longest.max(if whole <= 4_096 { whole } else { 0 });
         eight += u32::from(nodes.last().expect("a node").children().len() == MOST_CHILDREN);
     }
     assert!(eight > 10, "{eight} conjunctions of eight only");
-    assert!(longest > 2_000, "the longest listing has {longest} rows");
-    tally.expect(&[("list", &[(1, 100), (42, 100)])]);
+    assert!(longest[0] > 2_000 && longest[1] > 40, "the longest listings have {longest:?} rows");
+    tally.expect(&[("list", &[(1, 100), (42, 100)]), ("list_negation", &[(1, 250), (42, 140)])]);
 }
 
-/// Circuits of a middle size: hundreds of clearances, made from many joined rows.
+/// Circuits of a middle size: hundreds of clearances and of blockers, made from many joined rows.
 #[test]
 fn middle_listings() {
     let mut tally = Tally::default();
-    let mut longest = 0;
+    let mut longest = [0, 0];
     for seed in 0..80 {
         let random = Random::of(0x4300_0000, seed);
         let variables = random.between(9, 10) as u32;
@@ -159,14 +160,13 @@ fn middle_listings() {
         };
         let table = Table::of(variables, &circuits::scattered(&random, &nodes, variables));
         let mut listings = Listings::new(format!("middle, seed {seed}"), &table, &mut tally);
-        let whole = listings.whole();
-        for capacity in [whole, whole.saturating_sub(1)] {
-            listings.list(capacity, listings.enough(capacity), seed);
+        listings.list_around(seed, |whole| [whole, whole.saturating_sub(1)].map(|capacity| capacity.min(4_096)));
+        for listed in Listed::BOTH {
+            longest[listed as usize] = longest[listed as usize].max(listings.whole(listed));
         }
-        longest = longest.max(whole);
     }
-    assert!(longest > 400, "the longest listing has {longest} rows");
-    tally.expect(&[("list", &[(1, 70), (42, 70)])]);
+    assert!(longest.iter().all(|&rows| rows > 400), "the longest listings have {longest:?} rows");
+    tally.expect(&[("list", &[(1, 70), (42, 70)]), ("list_negation", &[(1, 70), (42, 70)])]);
 }
 
 /// The most nodes with the most room for each.
@@ -176,9 +176,6 @@ fn largest_listing() {
     let random = Random::of(0x4400_0000, 0);
     let table = Table::of(40, &circuits::chain(&random, 8, 1_023));
     assert_eq!(table.nodes, 1_024);
-    let mut listings = Listings::new("largest".to_string(), &table, &mut tally);
-    for capacity in [listings.whole(), 4_096] {
-        listings.list(capacity, listings.enough(capacity), 1);
-    }
-    tally.expect(&[("list", &[(1, 2)])]);
+    Listings::new("largest".to_string(), &table, &mut tally).list_around(1, |whole| [whole, 4_096]);
+    tally.expect(&[("list", &[(1, 2)]), ("list_negation", &[(1, 2)])]);
 }

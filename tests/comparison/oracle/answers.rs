@@ -1,6 +1,7 @@
-//! The answers about an accepted circuit: verdict, count, the two tests on a row, striking down, and the clearances of every node.
+//! The answers about an accepted circuit: verdict, count, the two tests on a row, striking down, and the clearances and blockers of
+//! every node.
 
-use super::function::{is_prime, values, Functions, Term, FEW};
+use super::function::{is_prime, values, Functions, Listed, Term, FEW};
 use super::table::{reachable, supports, Node, Table};
 use super::{counting, refused, rows, Refused};
 
@@ -89,44 +90,50 @@ impl Accepted {
     }
 
     pub fn implies(&self, term: Term) -> bool {
+        self.forces(term, true)
+    }
+
+    /// Whether every assignment that agrees with the term gives the circuit that value.
+    pub fn forces(&self, term: Term, forced: bool) -> bool {
         match &self.functions {
-            Some(functions) => functions.implies(term),
-            None => counting::implies(&self.nodes, term),
+            Some(functions) => functions.forces(term, forced),
+            None => counting::forces(&self.nodes, term, forced),
         }
     }
 
     /// The same by counting, to compare the two ways with each other.
-    pub fn implies_by_counting(&self, term: Term) -> bool {
-        counting::implies(&self.nodes, term)
+    pub fn forces_by_counting(&self, term: Term, forced: bool) -> bool {
+        counting::forces(&self.nodes, term, forced)
     }
 
     pub fn count_by_counting(&self, variables: u32) -> u64 {
         counting::count_models(&self.nodes, variables)
     }
 
-    /// The clearances of every node, in order.
-    pub fn primes(&self) -> Vec<Vec<Term>> {
+    /// The clearances or the blockers of every node, in order.
+    pub fn primes(&self, listed: Listed) -> Vec<Vec<Term>> {
         match &self.functions {
             Some(functions) if functions.tried.len() <= FEW => {
-                functions.truth.iter().map(|function| rows::primes(function, &functions.tried)).collect()
+                functions.truth.iter().map(|own| rows::primes(&listed.function(own), &functions.tried)).collect()
             }
-            _ => self.primes_by_parts(),
+            _ => self.primes_by_parts(listed),
         }
     }
 
     /// The same where many variables are named: each node by those under it, and a `both` with many of them by its children,
     /// which share none.
-    fn primes_by_parts(&self) -> Vec<Vec<Term>> {
+    fn primes_by_parts(&self, listed: Listed) -> Vec<Vec<Term>> {
         let supports = supports(&self.nodes);
         let mut primes: Vec<Vec<Term>> = vec![];
         for (index, node) in self.nodes.iter().enumerate() {
             primes.push(match node {
                 Node::Both(children) if supports[index].count_ones() as usize > FEW => {
-                    rows::joined(children.iter().map(|&child| primes[child as usize].as_slice()))
+                    let parts: Vec<&[Term]> = children.iter().map(|&child| primes[child as usize].as_slice()).collect();
+                    rows::of_conjunction(listed, &parts)
                 }
                 _ => {
                     let part = Functions::new(40, &reachable(&self.nodes[..=index])).expect("few enough variables to try every row");
-                    rows::primes(part.whole(), &part.tried)
+                    rows::primes(&listed.function(part.whole()), &part.tried)
                 }
             });
         }

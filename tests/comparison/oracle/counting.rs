@@ -1,4 +1,4 @@
-//! A second way to "count" and "implies", for more variables than can be tried: by shares of all assignments. Exact for accepted
+//! A second way to "count" and "forces", for more variables than can be tried: by shares of all assignments. Exact for accepted
 //! circuits.
 
 use super::function::Term;
@@ -30,8 +30,9 @@ fn share(nodes: &[Node], term: Term) -> u128 {
     shares.pop().expect("a node")
 }
 
-pub fn implies(nodes: &[Node], term: Term) -> bool {
-    share(nodes, term) == ALL
+/// Whether every assignment that agrees with the term gives the circuit that value.
+pub fn forces(nodes: &[Node], term: Term, forced: bool) -> bool {
+    share(nodes, term) == if forced { ALL } else { 0 }
 }
 
 pub fn count_models(nodes: &[Node], variables: u32) -> u64 {

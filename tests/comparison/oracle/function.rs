@@ -18,7 +18,7 @@ impl Term {
         Term { positive: self.positive & !(1 << variable), negative: self.negative & !(1 << variable) }
     }
 
-    fn agrees_with(self, assignment: u64) -> bool {
+    pub fn agrees_with(self, assignment: u64) -> bool {
         self.positive & !assignment == 0 && self.negative & assignment == 0
     }
 
@@ -30,6 +30,31 @@ impl Term {
 /// Whether the term is a clearance: it implies, and without any one of its marks it does not.
 pub fn is_prime(term: Term, implies: impl Fn(Term) -> bool) -> bool {
     implies(term) && (0..64).filter(|variable| term.marks() >> variable & 1 == 1).all(|variable| !implies(term.without(variable)))
+}
+
+/// What is listed of every node: its clearances, or its blockers, which are the clearances of its negation.
+#[derive(Clone, Copy, Debug, PartialEq, Eq)]
+pub enum Listed {
+    Clearances,
+    Blockers,
+}
+
+impl Listed {
+    /// Both kinds of rows; the number of a kind is its place here.
+    pub const BOTH: [Listed; 2] = [Listed::Clearances, Listed::Blockers];
+
+    /// The value that the function has on every assignment that agrees with such a row.
+    pub fn value(self) -> bool {
+        self == Listed::Clearances
+    }
+
+    /// The values of the function whose clearances they are: the node's own, or its negation.
+    pub fn function(self, own: &[bool]) -> Vec<bool> {
+        match self {
+            Listed::Clearances => own.to_vec(),
+            Listed::Blockers => own.iter().map(|value| !value).collect(),
+        }
+    }
 }
 
 /// The value of every node on one assignment.
@@ -88,11 +113,11 @@ impl Functions {
         self.truth.last().expect("a node")
     }
 
-    /// Whether every assignment that agrees with the term makes the circuit true.
-    pub fn implies(&self, term: Term) -> bool {
+    /// Whether every assignment that agrees with the term gives the circuit that value.
+    pub fn forces(&self, term: Term, forced: bool) -> bool {
         let term = term.within(self.tried.iter().fold(0, |mask, variable| mask | 1 << variable));
         let whole = self.assignments.iter().zip(self.whole());
-        whole.filter(|(assignment, _)| term.agrees_with(**assignment)).all(|(_, &value)| value)
+        whole.filter(|(assignment, _)| term.agrees_with(**assignment)).all(|(_, &value)| value == forced)
     }
 }
 

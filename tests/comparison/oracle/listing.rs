@@ -1,4 +1,4 @@
-//! The listing: what it leaves in the three lent buffers.
+//! A listing: what it leaves in the three lent buffers.
 
 use super::answers::Oracle;
 use super::function::Term;
@@ -29,7 +29,7 @@ impl Buffers {
     }
 }
 
-/// Lists the clearances of every node, given them, at most `capacity` of each.
+/// Lists the rows of every node, its clearances or its blockers as they are given, at most `capacity` of each.
 pub fn list(oracle: &Oracle, primes: &[Vec<Term>], capacity: u32, buffers: &mut Buffers) -> Result<(), Refused> {
     oracle.accepted()?;
     let capacity_of_node = capacity as usize;

@@ -1,5 +1,5 @@
-//! A second engine, written from the scope and the article alone: plain, not fast. It tries every assignment and every row, and shares no code
-//! with the archive or its wrapper.
+//! A second engine, written from the scope and the article alone: plain, not fast. It tries every assignment and every row, and shares
+//! no code with the archive or its wrapper.
 
 pub mod answers;
 pub mod assignment_line;

@@ -1,6 +1,6 @@
-//! The clearances of a function by trying every row.
+//! The clearances of a function by trying every row, and the rows of functions that share no variable from those of each.
 
-use super::function::{spread, Term};
+use super::function::{spread, Listed, Term};
 
 /// The order of rows: fewer marks, then the smaller mask of all marked variables, then the smaller yes mask.
 pub fn order(term: &Term) -> (u32, u64, u64) {
@@ -66,7 +66,7 @@ pub fn primes(function: &[bool], tried: &[u32]) -> Vec<Term> {
 }
 
 /// The rows of a conjunction of functions that share no variable, in order: one row of each, joined.
-pub fn joined<'a>(parts: impl Iterator<Item = &'a [Term]>) -> Vec<Term> {
+pub fn joined(parts: &[&[Term]]) -> Vec<Term> {
     let join = |a: &Term, b: &Term| Term { positive: a.positive | b.positive, negative: a.negative | b.negative };
     let mut joined = vec![Term { positive: 0, negative: 0 }];
     for part in parts {
@@ -74,4 +74,19 @@ pub fn joined<'a>(parts: impl Iterator<Item = &'a [Term]>) -> Vec<Term> {
     }
     joined.sort_by_key(order);
     joined
+}
+
+/// The rows of a disjunction of functions that share no variable, none of which is true everywhere, in order: those of each.
+pub fn united(parts: &[&[Term]]) -> Vec<Term> {
+    let mut united = parts.concat();
+    united.sort_by_key(order);
+    united
+}
+
+/// The rows of a conjunction whose children share no variable, none of which is `false`, from those of its children.
+pub fn of_conjunction(listed: Listed, parts: &[&[Term]]) -> Vec<Term> {
+    match listed {
+        Listed::Clearances => joined(parts),
+        Listed::Blockers => united(parts),
+    }
 }

@@ -6,11 +6,12 @@ pub struct Functions {
     pub nodes: Nodes,
     conjunctions: Results,
     choices: Results,
+    negations: Results,
 }
 
 impl Functions {
     pub fn new() -> Self {
-        Functions { nodes: Nodes::new(), conjunctions: Results::new(), choices: Results::new() }
+        Functions { nodes: Nodes::new(), conjunctions: Results::new(), choices: Results::new(), negations: Results::new() }
     }
 
     /// low where x is false, high where it is true; x stands above both.
@@ -47,6 +48,20 @@ impl Functions {
         let (low, high) = (self.and(f0, g0)?, self.and(f1, g1)?);
         let result = self.make(x, low, high)?;
         self.conjunctions.put([f, g, 0], result);
+        Ok(result)
+    }
+
+    pub fn not(&mut self, f: u32) -> Result<u32, Over> {
+        if f == ZERO || f == ONE {
+            return Ok(if f == ZERO { ONE } else { ZERO });
+        }
+        if let Some(result) = self.negations.get([f, 0, 0]) {
+            return Ok(result);
+        }
+        let Node { level, low, high } = self.nodes.at(f);
+        let (low, high) = (self.not(low)?, self.not(high)?);
+        let result = self.make(level, low, high)?;
+        self.negations.put([f, 0, 0], result);
         Ok(result)
     }
 

@@ -192,7 +192,20 @@ fn step_high(
     })
 }
 
-// Settles the next row of the side whose rows cost less.
+// The next row of the high side is settled at once: the kept term at its hint is inside its term.
+fn is_high_settled(kept: &[u64], hints: &[u16], bp: &[u64], bn: &[u64], turn: Turn) -> bool
+    requires { ⌜ (2 * turn .kept ≤ length (now kept)) × (turn .high .at < length (now bp)) × (turn .high .at < length (now bn))
+        × (turn .high .at < maxCapacity) ⌝ }
+{
+    let high = turn.high;
+    let at = high.at;
+    let half = hints.len() / 2;
+    let hint = hints::hint_at(hints, half + at);
+    hints::covers(kept, turn.kept, hint, lists::term_at(bp, bn, at))
+}
+
+// Settles the next row of the high side where that is settled at once, else of the side whose rows cost less. A low row that is settled
+// at once costs nothing.
 fn step(
     positives: &mut [u64],
     negatives: &mut [u64],
@@ -213,7 +226,9 @@ fn step(
 {
     let low = turn.low;
     let high = turn.high;
-    if goes_low(low, high, ap.len() - low.at, bp.len() - high.at) {
+    if !is_high_settled(kept, hints, bp, bn, turn)
+        && goes_low(low, high, ap.len() - low.at, bp.len() - high.at)
+    {
         return step_low(
             positives,
             negatives,

@@ -82,11 +82,6 @@ module _ {N n : ℕ} {w : List ℕ} (acc : Accepted N n w) where
   rest-disjoint c cs h = and-r (disjoint (support w c) (union (support w) cs)) (allDisjoint (support w) cs) h
 
 -- ---- the children from a place on
-pub drop-mem : (k : ℕ) (cs : List ℕ) (c : ℕ) → List·Memᴰ c (drop k cs) → List·Memᴰ c cs
-drop-mem zero cs c m = m
-drop-mem (suc k) [] c m = m
-drop-mem (suc k) (d ∷ cs) c m = List·Memᴰ·tail (drop-mem k cs c m)
-
 pub drop-disjoint : {N n : ℕ} {w : List ℕ} → Accepted N n w → (k : ℕ) (cs : List ℕ) → T (allDisjoint (support w) cs)
     → T (allDisjoint (support w) (drop k cs))
 drop-disjoint acc zero cs h = h

@@ -133,7 +133,8 @@ pub record AnyInput : Type 0 where
       × (drop (n * R) (a .negatives) ≡ drop (n * R) (b .negatives))
       × (drop n (a .counts) ≡ drop n (b .counts))
   -- the view of c entries of node i in the row buffer s: those from i × R on, and the empty part where an argument is out of range
-  pub view : (s : List ℕ) (R i c : ℕ) → i < maxNodes → R ≤ maxCapacity → c ≤ R → i * R + c ≤ length s → viewed s R i c ≡ take c (drop (i * R) s)
+  pub view : (s : List ℕ) (R i c : ℕ) → i < maxNodes → R ≤ maxCapacity → c ≤ R → i * R + c ≤ length s
+      → viewed s R i c ≡ take c (drop (i * R) s)
   pub view-empty : (s : List ℕ) (R i c : ℕ) → ((maxNodes ≤ i) ⊎ (maxCapacity < R) ⊎ (R < c) ⊎ (length s < i * R + c)) → viewed s R i c ≡ []
   -- reading the assignment line s
   pub line : (s : List ℕ) (N : ℕ) → Answers (lineRefusals (length s)) (readAssignment s N)

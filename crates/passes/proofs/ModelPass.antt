@@ -24,13 +24,14 @@ use Rattle.table.proofs.Encoding.{Fits}
 use Rattle.terms.specs.Term.{has, mentions, variables, literals, isTerm, agrees, IsTerm}
 use Rattle.terms.specs.declared.Term.{Term}
 use Rattle.terms.proofs.Implicants.{Free}
+use Rattle.terms.proofs.Sorted.{drop-in}
 use Rattle.terms.proofs.Terms.{isTerm-e}
 use Rattle.circuits.specs.Check.{allDisjoint, check}
 use Rattle.circuits.specs.Function.{signed, nodeValue, function, union, nodeSupport, support}
 use Rattle.circuits.proofs.Accepted.{accepted-e, variables-le, variables-wide, Accepted}
 use Rattle.circuits.proofs.BottomUp.{branch-mem}
 use Rattle.circuits.proofs.Nodes.{sides, allOf, node-fits, function-is, not-under, decision-free, conjunction-below, conjunction-disjoint}
-use Rattle.circuits.proofs.Nodes.{all-not-under, rest-disjoint, drop-disjoint, drop-mem}
+use Rattle.circuits.proofs.Nodes.{all-not-under, rest-disjoint, drop-disjoint}
 use Rattle.circuits.proofs.Tables.{WellFormed, fits, children-below, support-of, node-induction}
 use Rattle.passes.specs.Models.{modelsUnder, scaled, productOf, ModelPass, Multiplied}
 use Rattle.passes.specs.Tables.{Holds}
@@ -213,9 +214,9 @@ module _ {N n : ℕ} {w : List ℕ} {t : Term} {sup : List ℕ} (p : ModelPass N
         → Multiplied N (λ c. getD m c 0) (λ c. getD sup c 0) cs
     multiplied cs e =
         record {
-          low = λ k. from-low (drop k cs) (drop-disjoint acc k cs (conjunction-disjoint acc i cs l e)) (λ c q. below c (drop-mem k cs c q));
+          low = λ k. from-low (drop k cs) (drop-disjoint acc k cs (conjunction-disjoint acc i cs l e)) (λ c q. below c (drop-in k cs c q));
           own = λ k c rest q.
-              let b : c < i = below c (drop-mem k cs c (subst (List·Memᴰ c) (sym q) (List·Memᴰ·head refl))) in
+              let b : c < i = below c (drop-in k cs c (subst (List·Memᴰ c) (sym q) (List·Memᴰ·head refl))) in
               own-le c (omega arith);
         }
       where

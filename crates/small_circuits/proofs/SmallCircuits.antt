@@ -19,6 +19,7 @@ use Rattle.small_circuits.specs.Small.{smallHolds, small}
 
 pub small-holds : T (all smallHolds small)
 unfolding small modelCount listTable exceeds check malformed parentless undecomposable unreduced support nodeAt wordsAt putWords
-    childrenFit bottomUp ofNode function primes prime candidates implicant agrees isTerm key before sort bit put size disjoint every some count least below
+    childrenFit bottomUp ofNode function primes prime candidates implicant agrees isTerm key before sort
+    bit put size disjoint every some count least below
     readText headerAt linesAt formAt restWith endAt closeAt headAt tailAt wordAt rangedAt matchAt numberAt digitsAt digitAt
 small-holds = tt

@@ -7,8 +7,9 @@ use mathlib.Core.List.{[], _∷_, List·Memᴰ, List·Memᴰ·head, List·Memᴰ
 use mathlib.Core.List.{List·Memᴰ·append-cases, Memᴰ·append-left, Memᴰ·append-right}
 use native.Mathlib.Nat.{not-suc-le-zero, le-refl, add-zero, zero-add, le-trans, mul-le-mul-left, mul-le-mul-right}
 use native.Mathlib.Omega.{arith}
-use lib.Dec.{T, ltb, ltb→lt, nltb→le}
-use Rattle.masks.specs.Numbers.{digit, every, some, count, least, below}
+use lib.Dec.{T, eqb, ltb, ltb→lt, nltb→le}
+use borrow.Author.Tests.{ne-eqb}
+use Rattle.masks.specs.Numbers.{digit, implied, every, some, count, least, below}
 use Rattle.masks.proofs.Tests.{and-i, and-l, and-r, or-l, or-r, or-cases, is-true, is-false, along, below-suc}
 
 pub every-e : (n : ℕ) (p : ℕ → Bool) → T (every n p) → (i : ℕ) → i < n → T (p i)
@@ -112,6 +113,33 @@ pub count-none : (n : ℕ) → count n (λ i. false) ≡ 0
 unfolding count
 count-none zero = refl
 count-none (suc n) = let e : count n (λ i. false) ≡ 0 = count-none n in omega arith
+
+-- of those that pass p, the ones that pass q and the ones that do not
+pub count-split : (n : ℕ) (p q : ℕ → Bool) → count n (λ i. p i && q i) + count n (λ i. p i && not (q i)) ≡ count n p
+unfolding count
+count-split zero p q = refl
+count-split (suc n) p q = go (p n) (q n) (count-split n p q)
+  where
+    go : (a b : Bool) → count n (λ i. p i && q i) + count n (λ i. p i && not (q i)) ≡ count n p
+        → (count n (λ i. p i && q i) + digit (a && b)) + (count n (λ i. p i && not (q i)) + digit (a && not b)) ≡ count n p + digit a
+    go true true e = omega arith
+    go true false e = omega arith
+    go false b e = omega arith
+
+-- every number that passes p passes q exactly if none of them fails q
+pub every-count : (n : ℕ) (p q : ℕ → Bool) → every n (λ i. implied (p i) (q i)) ≡ eqb (count n (λ i. p i && not (q i))) 0
+unfolding every count
+every-count zero p q = refl
+every-count (suc n) p q = go (p n) (q n) (every-count n p q)
+  where
+    failing : ℕ
+    failing = count n (λ i. p i && not (q i))
+
+    go : (a b : Bool) → every n (λ i. implied (p i) (q i)) ≡ eqb failing 0
+        → (implied a b && every n (λ i. implied (p i) (q i))) ≡ eqb (failing + digit (a && not b)) 0
+    go true true e = e ∙ ap (λ (k : ℕ). eqb k 0) (sym (add-zero failing))
+    go true false e = sym (ne-eqb (failing + 1) 0 (λ d. absurd (omega arith)))
+    go false b e = e ∙ ap (λ (k : ℕ). eqb k 0) (sym (add-zero failing))
 
 -- those that pass and those that do not are all
 pub count-not : (n : ℕ) (p : ℕ → Bool) → count n p + count n (λ i. not (p i)) ≡ n

@@ -21,6 +21,7 @@ use Rattle.table.specs.Outcome.{accepted}
 use Rattle.table.specs.Words.{Readable, Sound}
 use Rattle.table.proofs.Checking.{range-e}
 use Rattle.table.proofs.Encoding.{Fits}
+use Rattle.terms.specs.Completions.{modelsUnder}
 use Rattle.terms.specs.Term.{has, mentions, variables, literals, isTerm, agrees, IsTerm}
 use Rattle.terms.specs.declared.Term.{Term}
 use Rattle.terms.proofs.Implicants.{Free}
@@ -33,7 +34,7 @@ use Rattle.circuits.proofs.BottomUp.{branch-mem}
 use Rattle.circuits.proofs.Nodes.{sides, allOf, node-fits, function-is, not-under, decision-free, conjunction-below, conjunction-disjoint}
 use Rattle.circuits.proofs.Nodes.{all-not-under, rest-disjoint, drop-disjoint}
 use Rattle.circuits.proofs.Tables.{WellFormed, fits, children-below, support-of, node-induction}
-use Rattle.passes.specs.Models.{modelsUnder, scaled, productOf, ModelPass, Multiplied}
+use Rattle.passes.specs.Models.{scaled, productOf, ModelPass, Multiplied}
 use Rattle.passes.specs.Tables.{Holds}
 use Rattle.passes.proofs.Under.{models, models-le, models-constant, models-agree, models-choice, models-conjunction}
 

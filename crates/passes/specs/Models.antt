@@ -1,22 +1,18 @@
--- The models of a function under a term. No public contract rests on these.
+-- What the pass keeps of the models under a term. No public contract rests on these.
 use Prim.Native.Nat.{ℕ, _-_, _*_, _/_, _^_, _≤_}
 use mathlib.Core.Path.{_≡_}
-use mathlib.Core.Bool.{Bool, _&&_}
+use mathlib.Core.Bool.{Bool}
 use mathlib.Core.List.{List, [], _∷_}
 use lib.Dec.{T}
 use lib.ListN.{drop}
 use Rattle.masks.specs.Mask.{size}
-use Rattle.masks.specs.Numbers.{count}
 use Rattle.table.specs.Outcome.{accepted}
-use Rattle.terms.specs.Term.{literals, isTerm, agrees}
+use Rattle.terms.specs.Completions.{modelsUnder}
+use Rattle.terms.specs.Term.{literals, isTerm}
 use Rattle.terms.specs.declared.Term.{Term}
 use Rattle.circuits.specs.Check.{check}
 use Rattle.circuits.specs.Function.{support}
 use Rattle.passes.specs.Tables.{Holds}
-
--- how many of the assignments that agree with the term make f true
-unfoldable pub modelsUnder : ℕ → (ℕ → Bool) → Term → ℕ
-modelsUnder N f t = count (2 ^ N) (λ s. agrees N t s && f s)
 
 -- what the pass over the nodes keeps of each: the models under the term, doubled for each literal
 abbrev pub scaled : ℕ → (ℕ → Bool) → Term → ℕ

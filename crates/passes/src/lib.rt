@@ -5,11 +5,12 @@ ghost use Prim.Native.Nat.{pred, _+_, _-_, _/_, _^_, _≤_, _<_};
 ghost use lib.Dec.{T};
 ghost use Rattle.table.specs.Outcome.{accepted};
 ghost use Rattle.table.specs.Words.{Readable};
+ghost use Rattle.terms.specs.Completions.{modelsUnder};
 ghost use Rattle.terms.specs.Term.{has, isTerm};
 ghost use Rattle.circuits.specs.Check.{check};
 ghost use Rattle.circuits.specs.Function.{function, support};
 ghost use Rattle.passes.specs.Implied.{impliedAt};
-ghost use Rattle.passes.specs.Models.{modelsUnder, scaled, ModelPass};
+ghost use Rattle.passes.specs.Models.{scaled, ModelPass};
 ghost use Rattle.passes.specs.Tables.{Holds};
 
 mod children;

@@ -13,6 +13,7 @@ use Rattle.masks.proofs.Numbers.{every-e, count-ext}
 use Rattle.masks.proofs.Operators.{bit-or}
 use Rattle.masks.proofs.Tests.{is-true, is-false, along}
 use Rattle.table.specs.Outcome.{accepted}
+use Rattle.terms.specs.Completions.{modelsUnder}
 use Rattle.terms.specs.Prime.{implicant, prime, reduce}
 use Rattle.terms.specs.Term.{empty, mentions, variables, isTerm, agrees, without, extend}
 use Rattle.terms.specs.declared.Term.{Term}
@@ -20,7 +21,6 @@ use Rattle.terms.proofs.Terms.{empty-has, without-isTerm, isTerm-e, isTerm-i, a
 use Rattle.circuits.specs.Check.{check}
 use Rattle.circuits.proofs.Accepted.{accepted-e, variables-le}
 use Rattle.passes.specs.Implied.{impliedAt}
-use Rattle.passes.specs.Models.{modelsUnder}
 use Rattle.passes.proofs.ImplicantPass.{implied-is}
 use Rattle.passes.proofs.ModelPass.{accepted-readable}
 use Rattle.queries.specs.Queries.{circuit, assignmentTerm}

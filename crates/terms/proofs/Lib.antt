@@ -8,4 +8,5 @@ pub mod Built
 pub mod Embeddings
 pub mod Disjunctions
 pub mod Counts
+pub mod Completions
 pub mod Leaves

@@ -2,4 +2,5 @@ pub mod Lists
 pub mod Term
 pub mod Order
 pub mod Prime
+pub mod Completions
 pub mod Joins

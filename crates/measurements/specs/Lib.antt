@@ -1,0 +1,3 @@
+pub mod Measurement
+pub mod Answers
+pub mod Walk

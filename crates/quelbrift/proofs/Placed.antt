@@ -12,15 +12,19 @@ use Rattle.lists.specs.Capacity.{maxCapacity}
 use Rattle.listing.specs.Listing.{viewed}
 use Rattle.quelbrift.specs.Boundary.{placed}
 
-pub placed-none : (R i : ℕ) (l : List ℕ) → length l ≡ 0 → placed R i l ≡ (0, 0)
-placed-none R i l e = ap (λ (b : Bool). cond b (0, 0) (i * R, length l)) (eq-eqb (length l) 0 e)
+-- by whether the part is empty
+placed-by : (R i : ℕ) (l : List ℕ) (b : Bool) → eqb (length l) 0 ≡ b → placed R i l ≡ cond b (0, (0, 0)) (i * R, (length l, 0))
+placed-by R i l b e = ap (λ (c : Bool). cond c (0, (0, 0)) (i * R, (length l, 0))) e
 
-pub placed-some : (R i : ℕ) (l : List ℕ) → (length l ≡ 0 → ⊥) → placed R i l ≡ (i * R, length l)
-placed-some R i l e = ap (λ (b : Bool). cond b (0, 0) (i * R, length l)) (ne-eqb (length l) 0 e)
+pub placed-none : (R i : ℕ) (l : List ℕ) → length l ≡ 0 → placed R i l ≡ (0, (0, 0))
+placed-none R i l e = placed-by R i l true (eq-eqb (length l) 0 e)
+
+pub placed-some : (R i : ℕ) (l : List ℕ) → (length l ≡ 0 → ⊥) → placed R i l ≡ (i * R, (length l, 0))
+placed-some R i l e = placed-by R i l false (ne-eqb (length l) 0 e)
 
 -- what a caller finds in the buffer s from an offset on
-abbrev pub found : List ℕ → ℕ × ℕ → List ℕ
-found s p = take (p .1) (drop (p .0) s)
+abbrev pub found : List ℕ → ℕ × (ℕ × ℕ) → List ℕ
+found s p = take (p .1 .0) (drop (p .0) s)
 
 take-again : (c : ℕ) (l : List ℕ) → take (length (take c l)) l ≡ take c l
 take-again zero l = refl
@@ -37,7 +41,7 @@ view-is s R i c = go (ltb i maxNodes && leb R maxCapacity && leb c R && leb (i *
   part : List ℕ
   part = take c (drop (i * R) s)
 
-  there : (b : Bool) → eqb (length part) 0 ≡ b → found s (cond b (0, 0) (i * R, length part)) ≡ part
+  there : (b : Bool) → eqb (length part) 0 ≡ b → found s (cond b (0, (0, 0)) (i * R, (length part, 0))) ≡ part
   there true e = none-is s part (eqb-true (length part) 0 e)
   there false e = take-again c (drop (i * R) s)
 

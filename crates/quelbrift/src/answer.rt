@@ -7,30 +7,39 @@ use table::Refusal;
 use table::node_of;
 use table::number_of;
 
-// 0, or the scope's number of a refusal with its place, node or needed length; and up to two values.
+// 0, or the scope's number of a refusal with its place, node or needed length; and up to three values.
 #[repr(C)]
 pub struct Answer {
     pub number: u32,
     pub place: u64,
     pub first: u64,
     pub second: u64,
+    pub third: u64,
 }
 
-// The work is done: the values.
-pub fn done(first: u64, second: u64) -> Answer
-    ensures { λ r. ⌜ r ≡ doneWith first second ⌝ }
+// The work is done: three values.
+pub fn done_three(first: u64, second: u64, third: u64) -> Answer
+    ensures { λ r. ⌜ r ≡ doneWith first second third ⌝ }
 {
     Answer {
         number: 0,
         place: 0,
         first,
         second,
+        third,
     }
+}
+
+// The work is done: up to two values.
+pub fn done(first: u64, second: u64) -> Answer
+    ensures { λ r. ⌜ r ≡ doneWith first second 0 ⌝ }
+{
+    done_three(first, second, 0)
 }
 
 // The work is done: 1 for yes, 0 for no.
 pub fn done_truth(b: bool) -> Answer
-    ensures { λ r. ⌜ r ≡ doneWith (cond b 1 0) 0 ⌝ }
+    ensures { λ r. ⌜ r ≡ doneWith (cond b 1 0) 0 0 ⌝ }
 {
     done(b as u64, 0)
 }
@@ -44,6 +53,7 @@ pub fn refused(number: u32, place: u64) -> Answer
         place,
         first: 0,
         second: 0,
+        third: 0,
     }
 }
 

@@ -33,7 +33,7 @@ use text::answer::fault_number;
 use text_writer::writer::Written;
 
 // The version of these functions and their answers: QUELBRIFT_VERSION in the header.
-const VERSION: u32 = 3;
+const VERSION: u32 = 4;
 
 #[no_mangle]
 pub extern "C" fn quelbrift_version() -> u32

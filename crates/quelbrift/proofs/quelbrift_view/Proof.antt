@@ -23,7 +23,7 @@ returns c =
     let x = h .before .before .args in
     let e = sym (ap length (h .view .ensures)) ∙ c .before .if1 .taken in
     let p = placed-none (x .capacity) (x .node) (viewed (x .buffer .now) (x .capacity) (x .node) (x .count)) e in
-    c .done .ensures ∙ ap (λ q. doneWith (q .0) (q .1)) (sym p)
+    c .done .ensures ∙ ap (λ q. doneWith (q .0) (q .1 .0) (q .1 .1)) (sym p)
 
 mul-done : tie.Need-mul-done
 mul-done c =
@@ -42,7 +42,7 @@ returns-2 c =
     let l = ap length (h .view .ensures) in
     let p = placed-some (x .capacity) (x .node) (viewed (x .buffer .now) (x .capacity) (x .node) (x .count))
     (λ e. c .before .if1 .left (l ∙ e)) in
-    c .done2 .ensures ∙ ap (λ k. doneWith (x .node * x .capacity) k) l ∙ ap (λ q. doneWith (q .0) (q .1)) (sym p)
+    c .done2 .ensures ∙ ap (λ k. doneWith (x .node * x .capacity) k 0) l ∙ ap (λ q. doneWith (q .0) (q .1 .0) (q .1 .1)) (sym p)
 
 pub quelbrift-view-spec : {M : Type 1} → statement M
 quelbrift-view-spec =

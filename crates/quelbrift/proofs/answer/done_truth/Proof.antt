@@ -19,7 +19,7 @@ done-requires : tie.Need-done-requires
 done-requires c κs = search needs
 
 returns : tie.Need-returns
-returns c = c .done .ensures ∙ ap (λ (k : ℕ). doneWith k 0) (as-number (c .before .args .b))
+returns c = c .done .ensures ∙ ap (λ (k : ℕ). doneWith k 0 0) (as-number (c .before .args .b))
 
 pub done-truth-spec : {M : Type 1} → statement M
 done-truth-spec = tie.close (tie.spec cast-done done-requires returns)

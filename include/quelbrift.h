@@ -4,14 +4,15 @@
  * examples/list.c is a whole program.
  *
  * Calls. Every function takes any numbers and any contents of the buffers. It ends, and does its work or refuses by a number. A
- * buffer is a pointer and then its length in elements; it may always be longer than needed. The caller must see to three things. No
- * pointer is NULL, not even where the length is 0. It points to at least that many elements. A buffer that is written overlaps no
- * other. No function keeps a pointer or state, and calls from several threads at once do not disturb one another. A call needs at
- * most 512 KiB of stack. Bytes and nodes are counted from 0.
+ * buffer is a pointer and then its length in elements; it may always be longer than needed, but for a list of measurements: its length
+ * is its number of entries. The caller must see to three things. No pointer is NULL, not even where the length is 0. It points to at
+ * least that many elements. A buffer that is written overlaps no other. No function keeps a pointer or state, and calls from several
+ * threads at once do not disturb one another. A call needs at most 512 KiB of stack. Bytes, nodes and measurements are counted from 0.
  *
- * Vocabulary. A fact of the trade is a variable here, a stow an assignment, a row a term, a clearance a prime implicant, a blocker a
- * prime implicant of the negation, the room a capacity. An assignment is a mask: bit i is set where variable i is true (the fact is
- * yes). A term is two masks: positive (marked yes) and negative (marked no).
+ * Vocabulary. A fact of the trade is a variable here, a stow an assignment, a row a term, a mark a literal, a clearance a prime
+ * implicant, a blocker a prime implicant of the negation, the room a capacity, a reading a measurement. An assignment is a mask: bit i
+ * is set where variable i is true (the fact is yes). A term is two masks: positive (marked yes) and negative (marked no). A half-known
+ * stow is a partial assignment, given as a term: its literals are what is known. Its completions are the assignments that agree with it.
  *
  * Tables. A circuit is a table of uint32_t words, eleven a node: kind, variable, number of children, and eight children. Node i is the
  * eleven words from 11 * i on; the last node is the whole circuit. Kinds: 0 false, 1 true, 2 yes, 3 no, 4 pick (the first child where
@@ -38,7 +39,7 @@ extern "C" {
 #endif
 
 /* The version. It is raised whenever this header or an answer of the archive changes. quelbrift_version() gives the archive's. */
-#define QUELBRIFT_VERSION 3
+#define QUELBRIFT_VERSION 4
 
 /* The limits. */
 #define QUELBRIFT_MAX_VARIABLES 40   /* the variables of a table: 1 to 40 */
@@ -56,22 +57,30 @@ extern "C" {
  *     sink                     QUELBRIFT_MAX_TEXT, 110,000: every well-formed table's text fits; the longest has 96,511 bytes
  *     positives and negatives  QUELBRIFT_ENTRIES(QUELBRIFT_MAX_NODES, QUELBRIFT_MAX_CAPACITY), 4,194,304 each (32 MiB each)
  *     counts                   QUELBRIFT_MAX_NODES, 1,024
+ *     measurements             QUELBRIFT_MAX_VARIABLES, 40: one a variable at most, so a longer list is refused
  */
 #define QUELBRIFT_WORDS(nodes) ((size_t)(nodes) * QUELBRIFT_NODE_WORDS)
 #define QUELBRIFT_ENTRIES(nodes, capacity) ((size_t)(nodes) * (size_t)(capacity))
 
 /*
  * number  0: the work is done; else the number of the refusal
- * place   of a refusal: its byte, its node, or the needed length; 0 where it has none, and where the work is done
+ * place   of a refusal: its byte, its node, its measurement, or the needed length; 0 where it has none, and where the work is done
  * first   the first value of the function; 0 where it has none, and with every refusal
  * second  the second value of the function; 0 likewise
+ * third   the third value of the function; 0 likewise
  */
 typedef struct {
     uint32_t number;
     uint64_t place;
     uint64_t first;
     uint64_t second;
+    uint64_t third;
 } quelbrift_answer;
+
+/* The verdicts for a partial assignment. */
+#define QUELBRIFT_FORBIDDEN 0 /* no completion is allowed */
+#define QUELBRIFT_OPEN 1      /* some are, and some are not */
+#define QUELBRIFT_ALLOWED 2   /* every completion is allowed */
 
 enum {
     QUELBRIFT_DONE = 0,
@@ -100,7 +109,10 @@ enum {
     QUELBRIFT_CAPACITY = 42,    /* more prime implicants, of the circuit or of the negation as listed, than the capacity */
     /* of an assignment line, with the byte */
     QUELBRIFT_LINE_SHAPE = 51, /* wrong shape, placed as 11 */
-    QUELBRIFT_LINE_ORDER = 52  /* a variable out of range, or not above the one before; the byte after the number */
+    QUELBRIFT_LINE_ORDER = 52, /* a variable out of range, or not above the one before; the byte after the number */
+    /* of the measurements, with the lowest wrong one */
+    QUELBRIFT_MEASUREMENT = 53 /* low above high; a variable out of range, with a literal in the term, or measured by an earlier entry;
+                                  or an entry that is incomplete */
 };
 
 /* A text for each number, for messages. */
@@ -127,6 +139,7 @@ static inline const char *quelbrift_text(uint32_t number)
     case QUELBRIFT_CAPACITY: return "the list has more rows than the room";
     case QUELBRIFT_LINE_SHAPE: return "the stow line has the wrong shape";
     case QUELBRIFT_LINE_ORDER: return "a fact of the stow line is out of range or out of order";
+    case QUELBRIFT_MEASUREMENT: return "a reading is incomplete, its low above its high, or its fact out of range, marked or read already";
     default: return "no number of Quelbrift";
     }
 }
@@ -165,6 +178,22 @@ quelbrift_answer quelbrift_check(const uint32_t *words, size_t words_length, uin
  */
 quelbrift_answer quelbrift_evaluate(const uint32_t *words, size_t words_length, uint32_t variables, uint32_t nodes,
                                     uint64_t assignment);
+
+/*
+ * The verdict for a partial assignment: the term, with a literal added for each measurement that decides its variable. The four lists
+ * are parallel, and only read. Entry i is a measurement of variable measured[i], a value known as lows[i] to highs[i]: the variable is
+ * true where lows[i] is at least thresholds[i], false where highs[i] is below thresholds[i], else unknown. The lists may be empty. Where
+ * k of all the variables, named in the circuit or not, are without literal, there are 2^k completions.
+ * Done: first is QUELBRIFT_ALLOWED where every completion is allowed, QUELBRIFT_FORBIDDEN where none is, else QUELBRIFT_OPEN; second is
+ * the number of allowed completions, third that of forbidden ones. second + third is 2^k.
+ * Refuses: 21 to 25, then 32 for the term as lent, then 53 with the lowest wrong measurement. Wrong are: lows[i] above highs[i]; a
+ * variable that is out of range, has a literal in the term, or is that of an earlier entry, even one that left it unknown; and, where
+ * the lengths of the lists differ, every entry at or past the shortest, which is incomplete.
+ */
+quelbrift_answer quelbrift_evaluate_partial(const uint32_t *words, size_t words_length, uint32_t variables, uint32_t nodes,
+                                            uint64_t positive, uint64_t negative, const uint32_t *measured, size_t measured_length,
+                                            const int32_t *lows, size_t lows_length, const int32_t *highs, size_t highs_length,
+                                            const int32_t *thresholds, size_t thresholds_length);
 
 /*
  * How many of the 2^variables assignments are allowed.

@@ -10,17 +10,26 @@ pub struct Answer {
     pub place: u64,
     pub first: u64,
     pub second: u64,
+    pub third: u64,
 }
 
 impl Answer {
-    /// The values where the work is done. A refusal has none, and work that is done has no place.
-    pub fn values(self) -> Result<(u64, u64), Refusal> {
+    /// The three values where the work is done. A refusal has none, and work that is done has no place.
+    pub fn three_values(self) -> Result<(u64, u64, u64), Refusal> {
+        let values = (self.first, self.second, self.third);
         if self.number == 0 {
             assert_eq!(self.place, 0, "work that is done has no place: {self:?}");
-            return Ok((self.first, self.second));
+            return Ok(values);
         }
-        assert_eq!((self.first, self.second), (0, 0), "a refusal has no values: {self:?}");
+        assert_eq!(values, (0, 0, 0), "a refusal has no values: {self:?}");
         Err(Refusal { number: self.number, place: self.place })
+    }
+
+    /// The two values.
+    pub fn values(self) -> Result<(u64, u64), Refusal> {
+        let (first, second, third) = self.three_values()?;
+        assert_eq!(third, 0, "two values: {self:?}");
+        Ok((first, second))
     }
 
     /// The one value.

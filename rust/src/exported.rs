@@ -11,6 +11,22 @@ extern "C" {
     pub fn quelbrift_write(words: *const u32, length: usize, variables: u32, nodes: u32, sink: *mut u8, room: usize) -> Answer;
     pub fn quelbrift_check(words: *const u32, length: usize, variables: u32, nodes: u32) -> Answer;
     pub fn quelbrift_evaluate(words: *const u32, length: usize, variables: u32, nodes: u32, assignment: u64) -> Answer;
+    pub fn quelbrift_evaluate_partial(
+        words: *const u32,
+        length: usize,
+        variables: u32,
+        nodes: u32,
+        positive: u64,
+        negative: u64,
+        measured: *const u32,
+        measured_length: usize,
+        lows: *const i32,
+        lows_length: usize,
+        highs: *const i32,
+        highs_length: usize,
+        thresholds: *const i32,
+        thresholds_length: usize,
+    ) -> Answer;
     pub fn quelbrift_count_models(words: *const u32, length: usize, variables: u32, nodes: u32) -> Answer;
     pub fn quelbrift_implies(words: *const u32, length: usize, variables: u32, nodes: u32, positive: u64, negative: u64) -> Answer;
     pub fn quelbrift_is_prime(words: *const u32, length: usize, variables: u32, nodes: u32, positive: u64, negative: u64) -> Answer;

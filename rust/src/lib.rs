@@ -8,7 +8,7 @@ mod refusal;
 pub use refusal::{Place, Refusal};
 
 /// The version that this wrapper is written for; `version` gives the archive's.
-pub const VERSION: u32 = 3;
+pub const VERSION: u32 = 4;
 
 /// The limits of the header.
 pub const MAX_VARIABLES: u32 = 40;
@@ -33,6 +33,25 @@ pub struct Table<'a> {
     pub words: &'a [u32],
     pub variables: u32,
     pub nodes: u32,
+}
+
+/// The verdict for a half-known stow, with the number that the archive gives it.
+#[derive(Clone, Copy, Debug, PartialEq, Eq)]
+pub enum Verdict {
+    /// No completion is allowed.
+    Forbidden = 0,
+    /// Some are, and some are not.
+    Open = 1,
+    /// Every completion is allowed.
+    Allowed = 2,
+}
+
+/// A verdict, and how many completions are allowed and how many are forbidden.
+#[derive(Clone, Copy, Debug, PartialEq, Eq)]
+pub struct Completions {
+    pub verdict: Verdict,
+    pub allowed: u64,
+    pub forbidden: u64,
 }
 
 /// The version of the archive; it fits this wrapper if it is `VERSION`.
@@ -65,6 +84,44 @@ pub fn check(table: Table) -> Result<(), Refusal> {
 pub fn evaluate(table: Table, assignment: u64) -> Result<bool, Refusal> {
     let Table { words, variables, nodes } = table;
     unsafe { exported::quelbrift_evaluate(words.as_ptr(), words.len(), variables, nodes, assignment) }.truth()
+}
+
+/// The verdict for a half-known stow: a row, and readings by their facts, lows, highs and thresholds, one a position.
+pub fn evaluate_partial(
+    table: Table,
+    term: Term,
+    measured: &[u32],
+    lows: &[i32],
+    highs: &[i32],
+    thresholds: &[i32],
+) -> Result<Completions, Refusal> {
+    let Table { words, variables, nodes } = table;
+    let answer = unsafe {
+        exported::quelbrift_evaluate_partial(
+            words.as_ptr(),
+            words.len(),
+            variables,
+            nodes,
+            term.positive,
+            term.negative,
+            measured.as_ptr(),
+            measured.len(),
+            lows.as_ptr(),
+            lows.len(),
+            highs.as_ptr(),
+            highs.len(),
+            thresholds.as_ptr(),
+            thresholds.len(),
+        )
+    };
+    let (first, allowed, forbidden) = answer.three_values()?;
+    let verdict = match first {
+        0 => Verdict::Forbidden,
+        1 => Verdict::Open,
+        2 => Verdict::Allowed,
+        _ => panic!("0, 1 or 2: {answer:?}"),
+    };
+    Ok(Completions { verdict, allowed, forbidden })
 }
 
 /// The count of allowed stows.

@@ -3,7 +3,7 @@
 use std::error::Error;
 use std::fmt::{Display, Formatter, Result};
 
-/// The number of a refusal, and its byte, node or needed length.
+/// The number of a refusal, and its byte, node, measurement or needed length.
 #[derive(Clone, Copy, Debug, PartialEq, Eq)]
 pub struct Refusal {
     pub number: u32,
@@ -15,6 +15,8 @@ pub struct Refusal {
 pub enum Place {
     Byte,
     Node,
+    /// The reading, by its index in the lent lists.
+    Measurement,
     Length,
     Nowhere,
 }
@@ -26,6 +28,7 @@ impl Refusal {
             10..=15 | 51 | 52 => Place::Byte,
             16 => Place::Length,
             22..=25 => Place::Node,
+            53 => Place::Measurement,
             _ => Place::Nowhere,
         }
     }
@@ -52,6 +55,7 @@ impl Refusal {
             42 => "the list has more rows than the room",
             51 => "the stow line has the wrong shape",
             52 => "a fact of the stow line is out of range or out of order",
+            53 => "a reading is incomplete, its low above its high, or its fact out of range, marked or read already",
             _ => "no number of Quelbrift",
         }
     }
@@ -63,6 +67,7 @@ impl Display for Refusal {
         match self.kind_of_place() {
             Place::Byte => write!(out, " at byte {}", self.place)?,
             Place::Node => write!(out, " at node {}", self.place)?,
+            Place::Measurement => write!(out, " at reading {}", self.place)?,
             Place::Length => write!(out, ", {} bytes needed", self.place)?,
             Place::Nowhere => {}
         }

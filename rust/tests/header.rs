@@ -1,6 +1,7 @@
-//! The wrapper says what `include/quelbrift.h` says: numbers with their texts, limits, version; and a refusal is shown in full.
+//! The wrapper says what `include/quelbrift.h` says: numbers with their texts, limits, verdicts, version. A refusal is shown in
+//! full, the longest line read and a half-known stow judged.
 
-use quelbrift::Refusal;
+use quelbrift::{Completions, Refusal, Table, Term, Verdict};
 use std::collections::HashMap;
 
 const HEADER: &str = include_str!("../../include/quelbrift.h");
@@ -26,7 +27,7 @@ fn limit(name: &str) -> u64 {
 #[test]
 fn texts_are_those_of_the_header() {
     let (numbers, texts) = (numbers(), texts());
-    assert_eq!(numbers.len(), 20);
+    assert_eq!(numbers.len(), 21);
     assert_eq!(texts.len(), numbers.len());
     for (name, number) in numbers {
         if number != 0 {
@@ -48,6 +49,13 @@ fn limits_are_those_of_the_header() {
 }
 
 #[test]
+fn verdicts_are_those_of_the_header() {
+    assert_eq!(Verdict::Forbidden as u64, limit("FORBIDDEN"));
+    assert_eq!(Verdict::Open as u64, limit("OPEN"));
+    assert_eq!(Verdict::Allowed as u64, limit("ALLOWED"));
+}
+
+#[test]
 fn versions_agree() {
     assert_eq!(u64::from(quelbrift::VERSION), limit("VERSION"));
     assert_eq!(quelbrift::version(), quelbrift::VERSION);
@@ -59,6 +67,10 @@ fn a_refusal_is_shown_with_its_place() {
     assert_eq!(shown(11, 7), "refused 11 at byte 7: the circuit text has the wrong shape");
     assert_eq!(shown(16, 300), "refused 16, 300 bytes needed: the text does not fit the sink");
     assert_eq!(shown(22, 3), "refused 22 at node 3: a node is malformed");
+    assert_eq!(
+        shown(53, 2),
+        "refused 53 at reading 2: a reading is incomplete, its low above its high, or its fact out of range, marked or read already"
+    );
     assert_eq!(shown(42, 0), "refused 42: the list has more rows than the room");
 }
 
@@ -73,4 +85,18 @@ fn longest_line() -> Result<u64, Box<dyn std::error::Error>> {
 fn the_longest_line_is_read() {
     assert_eq!(longest_line().unwrap(), (1 << quelbrift::MAX_VARIABLES) - 1);
     assert!(quelbrift::read_assignment(b"(stow", 1).is_err());
+}
+
+/// `(yes 0)` over two variables: each verdict, and a refusal with its place.
+#[test]
+fn a_half_known_stow_is_judged() {
+    let table = Table { words: &[2, 0, 0, 0, 0, 0, 0, 0, 0, 0, 0], variables: 2, nodes: 1 };
+    let empty = Term { positive: 0, negative: 0 };
+    let judged = |lows: &[i32], highs: &[i32]| quelbrift::evaluate_partial(table, empty, &[0], lows, highs, &[-3]);
+    let answer = |verdict, allowed, forbidden| Ok(Completions { verdict, allowed, forbidden });
+    assert_eq!(judged(&[-3], &[5]), answer(Verdict::Allowed, 2, 0));
+    assert_eq!(judged(&[-9], &[-4]), answer(Verdict::Forbidden, 0, 2));
+    assert_eq!(judged(&[-4], &[-3]), answer(Verdict::Open, 2, 2));
+    assert_eq!(judged(&[1], &[0]), Err(Refusal { number: 53, place: 0 }));
+    assert_eq!(judged(&[0, 0], &[0]), Err(Refusal { number: 53, place: 1 }));
 }

@@ -34,12 +34,13 @@ static void expect_answer(quelbrift_answer is, quelbrift_answer expected, const 
     expect_part(is.place, expected.place, "place", expression, line);
     expect_part(is.first, expected.first, "first", expression, line);
     expect_part(is.second, expected.second, "second", expression, line);
+    expect_part(is.third, expected.third, "third", expression, line);
 }
 
 #define EXPECT(expression) expect((expression) != 0, #expression, __LINE__)
 #define EXPECT_ANSWER(answer, ...) expect_answer((answer), (quelbrift_answer){__VA_ARGS__}, #answer, __LINE__)
-#define EXPECT_DONE(answer, first, second) EXPECT_ANSWER(answer, QUELBRIFT_DONE, 0, first, second)
-#define EXPECT_REFUSED(answer, number, place) EXPECT_ANSWER(answer, number, place, 0, 0)
+#define EXPECT_DONE(answer, first, second) EXPECT_ANSWER(answer, QUELBRIFT_DONE, 0, first, second, 0)
+#define EXPECT_REFUSED(answer, number, place) EXPECT_ANSWER(answer, number, place, 0, 0, 0)
 #define LENGTH(array) (sizeof(array) / sizeof *(array))
 
 /* A table, its words node by node, and its refusal by the check, if any. */
@@ -233,6 +234,223 @@ static void check_evaluate(void)
     EXPECT_REFUSED(quelbrift_evaluate(TABLE(&worked), (uint64_t)1 << 63), QUELBRIFT_ASSIGNMENT, 0);
     FOR_EACH_REFUSED(row) {
         EXPECT_REFUSED(quelbrift_evaluate(TABLE(row), UINT64_MAX), row->number, row->place);
+    }
+}
+
+/* The most measurements of a call here. */
+#define MOST 4
+
+/* Measurements as they are lent: the lengths of the four lists, and the lists. */
+typedef struct {
+    size_t lengths[4];
+    uint32_t measured[MOST];
+    int32_t lows[MOST];
+    int32_t highs[MOST];
+    int32_t thresholds[MOST];
+} measurements;
+
+static quelbrift_answer partial(const table *circuit, uint64_t positive, uint64_t negative, const measurements *lent)
+{
+    return quelbrift_evaluate_partial(TABLE(circuit), positive, negative, lent->measured, lent->lengths[0], lent->lows,
+                                      lent->lengths[1], lent->highs, lent->lengths[2], lent->thresholds, lent->lengths[3]);
+}
+
+static quelbrift_answer partial_of_term(const table *circuit, uint64_t positive, uint64_t negative)
+{
+    static const measurements none;
+    return partial(circuit, positive, negative, &none);
+}
+
+#define EXPECT_VERDICT(answer, verdict, allowed, forbidden) EXPECT_ANSWER(answer, QUELBRIFT_DONE, 0, verdict, allowed, forbidden)
+
+/* Partial assignments without measurements. Variables that the circuit does not name count too. */
+static void check_partial(void)
+{
+    const table never = {3, 1, 11, {{0}}, 0, 0}, never_40 = {40, 1, 11, {{0}}, 0, 0}, always_40 = {40, 1, 11, {{1}}, 0, 0};
+    const uint64_t top = (uint64_t)1 << 39;
+    table wide = worked;
+    wide.variables = 40;
+    EXPECT_VERDICT(partial_of_term(&worked, 0, 0), QUELBRIFT_OPEN, 5, 3);
+    EXPECT_VERDICT(partial_of_term(&worked, 4, 0), QUELBRIFT_OPEN, 3, 1);
+    EXPECT_VERDICT(partial_of_term(&worked, 4, 2), QUELBRIFT_ALLOWED, 2, 0);
+    EXPECT_VERDICT(partial_of_term(&worked, 2, 1), QUELBRIFT_FORBIDDEN, 0, 2);
+    EXPECT_VERDICT(partial_of_term(&worked, 7, 0), QUELBRIFT_ALLOWED, 1, 0);
+    EXPECT_VERDICT(partial_of_term(&worked, 2, 5), QUELBRIFT_FORBIDDEN, 0, 1);
+    EXPECT_VERDICT(partial_of_term(&eight, 0, 0), QUELBRIFT_OPEN, 3, 509);
+    EXPECT_VERDICT(partial_of_term(&eight, 3, 0x1f8), QUELBRIFT_ALLOWED, 2, 0);
+    EXPECT_VERDICT(partial_of_term(&eight, 0x100, 0), QUELBRIFT_FORBIDDEN, 0, 256);
+    EXPECT_VERDICT(partial_of_term(&never, 0, 0), QUELBRIFT_FORBIDDEN, 0, 8);
+    EXPECT_VERDICT(partial_of_term(&never, 1, 2), QUELBRIFT_FORBIDDEN, 0, 2);
+    EXPECT_VERDICT(partial_of_term(&never_40, 0, 0), QUELBRIFT_FORBIDDEN, 0, 2 * top);
+    EXPECT_VERDICT(partial_of_term(&always_40, 0, 0), QUELBRIFT_ALLOWED, 2 * top, 0);
+    EXPECT_VERDICT(partial_of_term(&always_40, top, 0), QUELBRIFT_ALLOWED, top, 0);
+    EXPECT_VERDICT(partial_of_term(&wide, 0, 0), QUELBRIFT_OPEN, 5 * (top >> 2), 3 * (top >> 2));
+    EXPECT_VERDICT(partial_of_term(&wide, 4, 2), QUELBRIFT_ALLOWED, top >> 1, 0);
+    EXPECT_VERDICT(partial_of_term(&wide, 4, top + 2), QUELBRIFT_ALLOWED, top >> 2, 0);
+}
+
+/* One measurement of the only variable of (yes 0): allowed where it is true, forbidden where it is false, open where unknown. */
+static void check_partial_limits(void)
+{
+    static const table literal = {1, 1, 11, {{2}}, 0, 0};
+    static const struct {
+        int32_t low, high, threshold;
+        uint64_t verdict;
+    } ranges[] = {
+        {10, 20, 10, QUELBRIFT_ALLOWED},
+        {10, 10, 10, QUELBRIFT_ALLOWED},
+        {0, 9, 10, QUELBRIFT_FORBIDDEN},
+        {9, 9, 10, QUELBRIFT_FORBIDDEN},
+        {9, 10, 10, QUELBRIFT_OPEN},
+        {9, 30, 10, QUELBRIFT_OPEN},
+        {-1, 1, 0, QUELBRIFT_OPEN},
+        {-5, -3, -4, QUELBRIFT_OPEN},
+        {-1, -1, 1, QUELBRIFT_FORBIDDEN},
+        {-5, -5, -4, QUELBRIFT_FORBIDDEN},
+        {1, 1, -1, QUELBRIFT_ALLOWED},
+        {-4, -3, -4, QUELBRIFT_ALLOWED},
+        {INT32_MIN, INT32_MAX, 0, QUELBRIFT_OPEN},
+        {INT32_MIN, INT32_MAX, INT32_MIN, QUELBRIFT_ALLOWED},
+        {INT32_MIN, INT32_MAX, INT32_MIN + 1, QUELBRIFT_OPEN},
+        {INT32_MIN, INT32_MAX, INT32_MAX, QUELBRIFT_OPEN},
+        {INT32_MIN, INT32_MAX - 1, INT32_MAX, QUELBRIFT_FORBIDDEN},
+        {INT32_MAX, INT32_MAX, INT32_MAX, QUELBRIFT_ALLOWED},
+        {INT32_MAX, INT32_MAX, INT32_MIN, QUELBRIFT_ALLOWED},
+        {INT32_MIN, INT32_MIN, INT32_MIN, QUELBRIFT_ALLOWED},
+        {INT32_MIN, INT32_MIN, INT32_MIN + 1, QUELBRIFT_FORBIDDEN},
+        {INT32_MIN, INT32_MIN, INT32_MAX, QUELBRIFT_FORBIDDEN},
+    };
+    for (call = 0; call < LENGTH(ranges); call++) {
+        const measurements lent = {{1, 1, 1, 1}, {0}, {ranges[call].low}, {ranges[call].high}, {ranges[call].threshold}};
+        const uint64_t verdict = ranges[call].verdict;
+        const uint64_t allowed = verdict != QUELBRIFT_FORBIDDEN, forbidden = verdict != QUELBRIFT_ALLOWED;
+        EXPECT_VERDICT(partial(&literal, 0, 0, &lent), verdict, allowed, forbidden);
+    }
+}
+
+/* A call on `worked` or on the same over more variables, and its answer. */
+typedef struct {
+    uint32_t variables;
+    uint64_t positive;
+    uint64_t negative;
+    measurements lent;
+    quelbrift_answer answer;
+} partial_call;
+
+static void check_partial_calls(const partial_call *calls, size_t count, int line)
+{
+    for (call = 0; call < count; call++) {
+        table circuit = worked;
+        circuit.variables = calls[call].variables;
+        quelbrift_answer answer = partial(&circuit, calls[call].positive, calls[call].negative, &calls[call].lent);
+        expect_answer(answer, calls[call].answer, "a call of quelbrift_evaluate_partial", line);
+    }
+}
+
+#define ALL(length) {length, length, length, length}
+#define VERDICT(verdict, allowed, forbidden) {QUELBRIFT_DONE, 0, QUELBRIFT_##verdict, allowed, forbidden}
+#define WRONG(place) {QUELBRIFT_MEASUREMENT, place, 0, 0, 0}
+#define NOT_TERM {QUELBRIFT_NOT_TERM, 0, 0, 0, 0}
+
+/* Literals of the term and of measurements, in any order of the variables. Range 5 to 7: 5 gives true, 6 unknown, 8 false. */
+static void check_partial_lists(void)
+{
+    static const partial_call calls[] = {
+        {3, 0, 2, {ALL(1), {2}, {5}, {7}, {5}}, VERDICT(ALLOWED, 2, 0)},
+        {3, 4, 0, {ALL(1), {1}, {5}, {7}, {8}}, VERDICT(ALLOWED, 2, 0)},
+        {3, 4, 0, {ALL(1), {1}, {5}, {7}, {6}}, VERDICT(OPEN, 3, 1)},
+        {3, 0, 1, {ALL(1), {1}, {5}, {7}, {5}}, VERDICT(FORBIDDEN, 0, 2)},
+        {3, 0, 0, {ALL(2), {2, 1}, {5, 5}, {7, 7}, {5, 8}}, VERDICT(ALLOWED, 2, 0)},
+        {3, 0, 0, {ALL(2), {1, 0}, {5, 5}, {7, 7}, {5, 8}}, VERDICT(FORBIDDEN, 0, 2)},
+        {3, 0, 0, {ALL(3), {0, 1, 2}, {5, 5, 5}, {7, 7, 7}, {6, 6, 6}}, VERDICT(OPEN, 5, 3)},
+        {3, 0, 0, {ALL(3), {2, 0, 1}, {5, 5, 5}, {7, 7, 7}, {5, 6, 8}}, VERDICT(ALLOWED, 2, 0)},
+        {3, 0, 0, {ALL(3), {2, 0, 1}, {5, 5, 5}, {7, 7, 7}, {8, 5, 5}}, VERDICT(ALLOWED, 1, 0)},
+        {3, 7, 0, {ALL(0), {0}, {0}, {0}, {0}}, VERDICT(ALLOWED, 1, 0)},
+        {5, 0, 2, {ALL(2), {4, 2}, {5, 5}, {7, 7}, {8, 5}}, VERDICT(ALLOWED, 4, 0)},
+        {5, 8, 2, {ALL(2), {4, 2}, {5, 5}, {7, 7}, {6, 5}}, VERDICT(ALLOWED, 4, 0)},
+        {40, 0, 0, {ALL(1), {39}, {5}, {7}, {5}}, VERDICT(OPEN, (uint64_t)5 << 36, (uint64_t)3 << 36)},
+        {40, 0, 0, {ALL(1), {39}, {5}, {7}, {6}}, VERDICT(OPEN, (uint64_t)5 << 37, (uint64_t)3 << 37)},
+    };
+    check_partial_calls(calls, LENGTH(calls), __LINE__);
+}
+
+/* Each reason for 53 but an incomplete entry, alone and with its place. */
+static void check_partial_refusals(void)
+{
+    static const partial_call calls[] = {
+        /* low above high */
+        {3, 0, 0, {ALL(1), {0}, {1}, {0}, {0}}, WRONG(0)},
+        {3, 0, 0, {ALL(1), {0}, {-1}, {-2}, {-9}}, WRONG(0)},
+        {3, 0, 0, {ALL(1), {0}, {INT32_MAX}, {INT32_MIN}, {0}}, WRONG(0)},
+        {3, 0, 0, {ALL(1), {0}, {INT32_MIN + 1}, {INT32_MIN}, {INT32_MAX}}, WRONG(0)},
+        {3, 0, 0, {ALL(1), {0}, {INT32_MAX}, {INT32_MAX - 1}, {INT32_MIN}}, WRONG(0)},
+        {3, 0, 0, {ALL(3), {0, 1, 2}, {5, 5, 7}, {7, 7, 5}, {5, 6, 8}}, WRONG(2)},
+        /* a variable out of range */
+        {3, 0, 0, {ALL(1), {3}, {0}, {0}, {0}}, WRONG(0)},
+        {3, 0, 0, {ALL(1), {32}, {0}, {0}, {0}}, WRONG(0)},
+        {3, 0, 0, {ALL(1), {64}, {0}, {0}, {0}}, WRONG(0)},
+        {3, 0, 0, {ALL(1), {UINT32_MAX}, {0}, {0}, {0}}, WRONG(0)},
+        {40, 0, 0, {ALL(2), {39, 40}, {0, 0}, {0, 0}, {0, 0}}, WRONG(1)},
+        {40, 0, 0, {ALL(2), {0, 64}, {0, 0}, {0, 0}, {0, 0}}, WRONG(1)},
+        /* a variable with a literal in the term, of either sign, whatever the measurement says */
+        {3, 2, 0, {ALL(2), {0, 1}, {5, 5}, {7, 7}, {5, 5}}, WRONG(1)},
+        {3, 0, 2, {ALL(2), {0, 1}, {5, 5}, {7, 7}, {5, 8}}, WRONG(1)},
+        {3, 0, 2, {ALL(2), {0, 1}, {5, 5}, {7, 7}, {5, 6}}, WRONG(1)},
+        {40, (uint64_t)1 << 39, 0, {ALL(1), {39}, {5}, {7}, {5}}, WRONG(0)},
+        /* a variable measured before: true, false or left unknown, and then the same or not */
+        {3, 0, 0, {ALL(2), {1, 1}, {5, 5}, {7, 7}, {5, 5}}, WRONG(1)},
+        {3, 0, 0, {ALL(2), {1, 1}, {5, 5}, {7, 7}, {8, 5}}, WRONG(1)},
+        {3, 0, 0, {ALL(2), {1, 1}, {5, 5}, {7, 7}, {6, 6}}, WRONG(1)},
+        {3, 0, 0, {ALL(2), {1, 1}, {5, 5}, {7, 7}, {6, 5}}, WRONG(1)},
+        {3, 0, 0, {ALL(3), {1, 0, 1}, {5, 5, 5}, {7, 7, 7}, {6, 5, 8}}, WRONG(2)},
+        {3, 0, 0, {ALL(4), {2, 0, 1, 2}, {5, 5, 5, 5}, {7, 7, 7, 7}, {5, 5, 5, 5}}, WRONG(3)},
+    };
+    check_partial_calls(calls, LENGTH(calls), __LINE__);
+}
+
+/* Each list in turn shorter than the others, or longer: the entry at the shortest length is incomplete. */
+static void check_partial_incomplete(void)
+{
+    for (size_t list = 0; list < 4; list++) {
+        for (size_t length = 0; length < 4; length++) {
+            for (size_t others = 0; others < 4; others++) {
+                measurements lent = {ALL(others), {2, 0, 1}, {5, 5, 5}, {7, 7, 7}, {5, 5, 6}};
+                lent.lengths[list] = length;
+                call = 16 * list + 4 * length + others;
+                if (length != others) {
+                    EXPECT_REFUSED(partial(&worked, 0, 0, &lent), QUELBRIFT_MEASUREMENT, length < others ? length : others);
+                } else {
+                    EXPECT(partial(&worked, 0, 0, &lent).number == QUELBRIFT_DONE);
+                }
+            }
+        }
+    }
+}
+
+/* Of several faults: those of the table, then the term's as lent, then the lowest measurement's. */
+static void check_partial_order(void)
+{
+    static const partial_call calls[] = {
+        {3, 0, 0, {ALL(3), {0, 3, 0}, {5, 5, 9}, {7, 7, 7}, {5, 5, 5}}, WRONG(1)},
+        {3, 0, 0, {ALL(3), {0, 1, 9}, {5, 9, 5}, {7, 7, 7}, {5, 5, 5}}, WRONG(1)},
+        {3, 1, 0, {ALL(3), {0, 9, 9}, {5, 9, 9}, {7, 7, 7}, {5, 5, 5}}, WRONG(0)},
+        {3, 0, 0, {{3, 3, 2, 3}, {0, 0, 1}, {5, 5, 5}, {7, 7, 7}, {5, 5, 5}}, WRONG(1)},
+        {3, 0, 0, {{3, 2, 3, 3}, {0, 1, 9}, {5, 5, 9}, {7, 7, 7}, {5, 5, 5}}, WRONG(2)},
+        {3, 0, 0, {{1, 0, 4, 2}, {9}, {9}, {7, 7, 7, 7}, {5, 5}}, WRONG(0)},
+        {3, 8, 0, {ALL(1), {0}, {5}, {7}, {5}}, NOT_TERM},
+        {3, 8, 0, {ALL(1), {9}, {9}, {7}, {5}}, NOT_TERM},
+        {3, 0, 8, {ALL(1), {3}, {9}, {7}, {5}}, NOT_TERM},
+        {3, 1, 1, {ALL(1), {0}, {9}, {7}, {5}}, NOT_TERM},
+        {3, 1, 1, {{0, 1, 0, 0}, {0}, {0}, {0}, {0}}, NOT_TERM},
+        {3, (uint64_t)1 << 63, 0, {ALL(0), {0}, {0}, {0}, {0}}, NOT_TERM},
+    };
+    static const measurements wrong = {ALL(1), {UINT32_MAX}, {1}, {0}, {0}}, incomplete = {{0, 0, 0, 1}, {0}, {0}, {0}, {0}};
+    check_partial_calls(calls, LENGTH(calls), __LINE__);
+    FOR_EACH_REFUSED(row) {
+        EXPECT_REFUSED(partial(row, UINT64_MAX, UINT64_MAX, &wrong), row->number, row->place);
+        EXPECT_REFUSED(partial(row, 0, 0, &wrong), row->number, row->place);
+        EXPECT_REFUSED(partial(row, 0, 0, &incomplete), row->number, row->place);
+        EXPECT_REFUSED(partial_of_term(row, 0, 0), row->number, row->place);
     }
 }
 
@@ -444,18 +662,18 @@ static void check_read_assignment(void)
         uint32_t variables;
         quelbrift_answer answer;
     } lines[] = {
-        {"(stow)\n", 1, {QUELBRIFT_DONE, 0, 0, 0}},
-        {"(stow 0 2)\n", 3, {QUELBRIFT_DONE, 0, 5, 0}},
-        {"(stow 39)\n", 40, {QUELBRIFT_DONE, 0, (uint64_t)1 << 39, 0}},
-        {"(stow)\n", 0, {QUELBRIFT_SIZES, 0, 0, 0}},
-        {"(stow)\n", 41, {QUELBRIFT_SIZES, 0, 0, 0}},
-        {"(stow)", 3, {QUELBRIFT_LINE_SHAPE, 6, 0, 0}},
-        {"(stow 0 )\n", 3, {QUELBRIFT_LINE_SHAPE, 8, 0, 0}},
-        {"(stow)\n\n", 3, {QUELBRIFT_LINE_SHAPE, 7, 0, 0}},
-        {"(stow 9", 3, {QUELBRIFT_LINE_SHAPE, 7, 0, 0}},
-        {"(stow 3)\n", 3, {QUELBRIFT_LINE_ORDER, 7, 0, 0}},
-        {"(stow 1 1)\n", 3, {QUELBRIFT_LINE_ORDER, 9, 0, 0}},
-        {"(stow 2 1)\n", 3, {QUELBRIFT_LINE_ORDER, 9, 0, 0}},
+        {"(stow)\n", 1, {QUELBRIFT_DONE, 0, 0, 0, 0}},
+        {"(stow 0 2)\n", 3, {QUELBRIFT_DONE, 0, 5, 0, 0}},
+        {"(stow 39)\n", 40, {QUELBRIFT_DONE, 0, (uint64_t)1 << 39, 0, 0}},
+        {"(stow)\n", 0, {QUELBRIFT_SIZES, 0, 0, 0, 0}},
+        {"(stow)\n", 41, {QUELBRIFT_SIZES, 0, 0, 0, 0}},
+        {"(stow)", 3, {QUELBRIFT_LINE_SHAPE, 6, 0, 0, 0}},
+        {"(stow 0 )\n", 3, {QUELBRIFT_LINE_SHAPE, 8, 0, 0, 0}},
+        {"(stow)\n\n", 3, {QUELBRIFT_LINE_SHAPE, 7, 0, 0, 0}},
+        {"(stow 9", 3, {QUELBRIFT_LINE_SHAPE, 7, 0, 0, 0}},
+        {"(stow 3)\n", 3, {QUELBRIFT_LINE_ORDER, 7, 0, 0, 0}},
+        {"(stow 1 1)\n", 3, {QUELBRIFT_LINE_ORDER, 9, 0, 0, 0}},
+        {"(stow 2 1)\n", 3, {QUELBRIFT_LINE_ORDER, 9, 0, 0, 0}},
     };
     for (call = 0; call < LENGTH(lines); call++) {
         const uint8_t *line = (const uint8_t *)lines[call].text;
@@ -472,7 +690,7 @@ static void check_version(void)
 /* Every number has a text of its own. */
 static void check_texts(void)
 {
-    static const uint32_t numbers[] = {0, 10, 11, 12, 13, 14, 15, 16, 21, 22, 23, 24, 25, 31, 32, 33, 41, 42, 51, 52};
+    static const uint32_t numbers[] = {0, 10, 11, 12, 13, 14, 15, 16, 21, 22, 23, 24, 25, 31, 32, 33, 41, 42, 51, 52, 53};
     for (call = 0; call < LENGTH(numbers); call++) {
         EXPECT(strcmp(quelbrift_text(numbers[call]), quelbrift_text(1)) != 0);
         for (size_t other = 0; other < call; other++) {
@@ -495,6 +713,12 @@ int main(void)
     run(check_write_unaccepted);
     run(check_check);
     run(check_evaluate);
+    run(check_partial);
+    run(check_partial_limits);
+    run(check_partial_lists);
+    run(check_partial_refusals);
+    run(check_partial_incomplete);
+    run(check_partial_order);
     run(check_count_models);
     run(check_implies);
     run(check_is_prime);

@@ -1,6 +1,7 @@
 //! The archive's answers in the oracle's types. A wrapper's panic (an answer that no paper allows) is caught, so that it can be
 //! shown with the case that led to it.
 
+use crate::oracle::answers::{Completions, Verdict};
 use crate::oracle::function::{Listed, Term};
 use crate::oracle::listing::Buffers;
 use crate::oracle::table::Table;
@@ -44,6 +45,15 @@ pub fn lent(table: &Table) -> quelbrift::Table<'_> {
 
 pub fn term(term: Term) -> quelbrift::Term {
     quelbrift::Term { positive: term.positive, negative: term.negative }
+}
+
+pub fn completions(answer: quelbrift::Completions) -> Completions {
+    let verdict = match answer.verdict {
+        quelbrift::Verdict::Forbidden => Verdict::Forbidden,
+        quelbrift::Verdict::Open => Verdict::Open,
+        quelbrift::Verdict::Allowed => Verdict::Allowed,
+    };
+    Completions { verdict, allowed: answer.allowed, forbidden: answer.forbidden }
 }
 
 pub fn own<T>(answer: Result<T, quelbrift::Refusal>) -> Result<T, Refused> {

@@ -2,14 +2,16 @@
 
 use super::questions::Questioning;
 use crate::cases::listings::Listing;
+use crate::cases::partials::Partial;
 use crate::cases::questions::Asked;
 use crate::cases::questions::Question::{Check, Count};
 use crate::cases::writings::Writing;
 use crate::circuits;
 use crate::compare::compare;
 use crate::damage;
-use crate::oracle::function::Listed;
+use crate::oracle::function::{Listed, Term};
 use crate::oracle::table::{Node, Table, MOST_CHILDREN, NODE_WORDS};
+use crate::partials;
 use crate::random::Random;
 use crate::tally::Tally;
 
@@ -31,6 +33,12 @@ fn every_operation(origin: &str, random: &Random, table: &Table, tally: &mut Tal
     questioning.ask_assignment(assignment);
     let other = mask(random, table) & if random.once_in(4) { u64::MAX } else { !assignment };
     questioning.ask_row(assignment, other);
+    let term = Term { positive: assignment, negative: other };
+    let mut measurements = partials::measurements(random, term, table.variables);
+    if random.once_in(2) {
+        partials::damage(random, &mut measurements, term, table.variables);
+    }
+    compare(origin, &Partial { table: table.clone(), term, measurements }, tally);
     let capacity = if random.once_in(100) { 4097 } else { random.choose(&[0, 1, 3, 20, 100]) };
     let rows = (table.nodes as usize).min(60) * capacity as usize;
     let longer = random.position(3);
@@ -52,11 +60,12 @@ fn damaged_tables() {
         every_operation(&format!("damaged, seed {seed}"), &random, &table, &mut tally);
     }
     let refusals: &[(u32, u64)] = &[(21, 1_000), (22, 3_000), (23, 3_000), (24, 1_000), (25, 200)];
-    let operations = ["check", "evaluate", "count", "implies", "prime", "reduce", "list", "list_negation"];
+    let operations = ["check", "evaluate", "partial", "count", "implies", "prime", "reduce", "list", "list_negation"];
     tally.expect(&operations.map(|operation| (operation, refusals)));
     tally.expect(&[
         ("check", &[(0, 5_000)]),
         ("evaluate", &[(0, 500), (1, 500), (31, 200)]),
+        ("partial", &[(0, 200), (1, 200), (2, 200), (32, 200), (53, 500)]),
         ("prime", &[(0, 500), (1, 50), (32, 200)]),
         ("reduce", &[(1, 500), (31, 200), (33, 500)]),
         ("list", &[(1, 500), (41, 500), (42, 500)]),

@@ -1,15 +1,17 @@
 //! The stated limits of a call: its stack, and that calls from several threads do not disturb one another.
 
 use crate::cases::listings::Listing;
+use crate::cases::partials::Partial;
 use crate::cases::questions::Asked;
 use crate::cases::questions::Question::{Check, Count, Evaluate, Implies, Prime, Reduce};
 use crate::cases::readings::Reading;
 use crate::cases::writings::Writing;
 use crate::circuits;
 use crate::compare::compare;
-use crate::oracle::function::Listed;
+use crate::oracle::function::{Listed, Term};
 use crate::oracle::table::{Table, MOST_CHILDREN, MOST_NODES, NODE_WORDS};
 use crate::oracle::text::MOST_BYTES;
+use crate::partials;
 use crate::random::Random;
 use crate::tally::Tally;
 use crate::texts;
@@ -28,6 +30,8 @@ fn largest_work(seed: u64) -> u64 {
     for question in [Check, Count, Evaluate(7), Implies(0, 0), Prime(0, 0), Reduce(0), Reduce((1 << 40) - 1)] {
         compare("limits", &Asked::new(table.clone(), question), &mut tally);
     }
+    let measurements = partials::measurements_of(&random, &(0..40).collect::<Vec<u32>>());
+    compare("limits", &Partial { table: table.clone(), term: Term::EMPTY, measurements }, &mut tally);
     let (variables, clauses) = circuits::clauses(6, 4);
     let [clauses, parity] = [(variables, clauses), (13, circuits::parity(13))].map(|(variables, nodes)| Table::of(variables, &nodes));
     for listed in Listed::BOTH {
@@ -48,7 +52,7 @@ fn largest_work(seed: u64) -> u64 {
 fn within_the_stated_stack() {
     let small = std::thread::Builder::new().stack_size(STATED_STACK + OWN_STACK);
     let compared = small.spawn(|| largest_work(0x6000_0000)).expect("a thread").join();
-    assert_eq!(compared.expect("no difference"), 18);
+    assert_eq!(compared.expect("no difference"), 19);
 }
 
 #[test]
@@ -56,7 +60,7 @@ fn several_threads_at_once() {
     let threads: Vec<_> =
         (0..4).map(|seed| std::thread::spawn(move || (0..3).map(|more| largest_work(8 * seed + more)).sum::<u64>())).collect();
     let compared: u64 = threads.into_iter().map(|thread| thread.join().expect("no difference")).sum();
-    assert_eq!(compared, 4 * 3 * 18);
+    assert_eq!(compared, 4 * 3 * 19);
 }
 
 /// The wrapper's limits are those that the oracle has from the papers.

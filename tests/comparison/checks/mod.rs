@@ -8,6 +8,7 @@ mod listed;
 mod negations;
 mod oracle;
 mod papers;
+mod partials;
 mod questions;
 mod reading;
 mod regressions;

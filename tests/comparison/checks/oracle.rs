@@ -4,8 +4,10 @@ use crate::circuits;
 use crate::damage;
 use crate::oracle::answers::Oracle;
 use crate::oracle::function::{is_prime, Functions, Listed, Term};
+use crate::oracle::measurements::Measurements;
 use crate::oracle::table::{Node, Table};
 use crate::oracle::{grammar, rows, text, writer};
+use crate::partials;
 use crate::random::Random;
 
 #[test]
@@ -21,7 +23,27 @@ fn trying_out_and_counting_agree() {
             let term = Term { positive: assignment & marks, negative: !assignment & marks };
             for value in [false, true] {
                 assert_eq!(accepted.forces(term, value), accepted.forces_by_counting(term, value), "seed {seed}, {term:?}, {value}");
+                let counted = accepted.completions_by_counting(term, variables, value);
+                assert_eq!(accepted.completions(term, variables, value), counted, "seed {seed}, {term:?}, {value}");
             }
+        }
+    }
+}
+
+/// The completions of a row, judged one by one.
+#[test]
+fn completions_and_single_verdicts_agree() {
+    for seed in 0..500 {
+        let random = Random::of(0x1100, seed);
+        let (named, variables) = (random.between(1, 8) as u32, random.between(8, 11) as u32);
+        let table = Table::of(variables, &circuits::scattered(&random, &circuits::nodes(&random, named), variables));
+        let oracle = Oracle::new(&table);
+        for _ in 0..10 {
+            let term = partials::term(&random, variables);
+            let completions = (0..1u64 << variables).filter(|&assignment| term.agrees_with(assignment));
+            let (allowed, forbidden): (Vec<u64>, Vec<u64>) = completions.partition(|&assignment| oracle.evaluate(assignment) == Ok(true));
+            let answer = oracle.evaluate_partial(term, &Measurements::default()).expect("a row");
+            assert_eq!((answer.allowed, answer.forbidden), (allowed.len() as u64, forbidden.len() as u64), "seed {seed}, {term:?}");
         }
     }
 }

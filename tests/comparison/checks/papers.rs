@@ -2,14 +2,16 @@
 //! and the blockers and the conjunction as worked out by hand from the definitions.
 
 use crate::cases::listings::Listing;
+use crate::cases::partials;
 use crate::cases::questions::Asked;
 use crate::cases::questions::Question::{Check, Count};
 use crate::cases::readings::Reading;
 use crate::compare::{compare, Case};
 use crate::engine;
-use crate::oracle::answers::Oracle;
-use crate::oracle::function::Listed;
+use crate::oracle::answers::{Completions, Oracle, Verdict};
 use crate::oracle::function::Listed::{Blockers, Clearances};
+use crate::oracle::function::{Listed, Term};
+use crate::oracle::measurements::Measurements;
 use crate::oracle::table::{Table, NODE_WORDS};
 use crate::oracle::{text, Refused};
 use crate::tally::Tally;
@@ -78,6 +80,17 @@ fn rows_of_engine(listed: Listed, lent: quelbrift::Table, capacity: u32) -> Resu
     Ok(last(&positives).iter().zip(last(&negatives)).map(|(positive, negative)| row(*positive, *negative)).collect())
 }
 
+/// What is answered where nothing is known, from the number of models.
+fn completions(models: u64, variables: u32) -> Completions {
+    let forbidden = (1 << variables) - models;
+    let verdict = match (models, forbidden) {
+        (0, _) => Verdict::Forbidden,
+        (_, 0) => Verdict::Allowed,
+        _ => Verdict::Open,
+    };
+    Completions { verdict, allowed: models, forbidden }
+}
+
 /// The engine alone against what is known; the table as read.
 fn engine_against_paper(known: &Known) -> Table {
     let mut words = vec![0; WORDS];
@@ -91,6 +104,8 @@ fn engine_against_paper(known: &Known) -> Table {
         }
         Ok((models, rows)) => {
             assert_eq!(quelbrift::count_models(lent), Ok(models), "{}", known.text);
+            let nothing_known = partials::engine_answer(&table, Term::EMPTY, &Measurements::default());
+            assert_eq!(nothing_known, Ok(Ok(completions(models, variables))), "{}", known.text);
             for (listed, rows) in Listed::BOTH.into_iter().zip(rows) {
                 let of_engine = rows_of_engine(listed, lent, rows.len() as u32);
                 assert_eq!(of_engine.expect("listed"), rows, "{listed:?} of {}", known.text);
@@ -110,6 +125,8 @@ fn oracle_against_paper(known: &Known, table: &Table) {
         Err(refusal) => assert_eq!(oracle.accepted().err(), Some(refusal), "{}", known.text),
         Ok((models, rows)) => {
             assert_eq!(oracle.count_models(), Ok(models), "{}", known.text);
+            let nothing_known = oracle.evaluate_partial(Term::EMPTY, &Measurements::default());
+            assert_eq!(nothing_known, Ok(completions(models, table.variables)), "{}", known.text);
             for (listed, rows) in Listed::BOTH.into_iter().zip(rows) {
                 let last = oracle.accepted().expect("accepted").primes(listed).pop().expect("a node");
                 let of_oracle = last.iter().map(|term| row(term.positive, term.negative));

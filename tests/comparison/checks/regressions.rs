@@ -1,6 +1,7 @@
 //! Cases that a comparison once failed on, and cases with known answers: paste new ones here.
 
 use crate::cases::listings::{Listing, View};
+use crate::cases::partials::Partial;
 use crate::cases::questions::Asked;
 use crate::cases::questions::Question::{Check, Count, Evaluate, Implies, Prime, Reduce};
 use crate::cases::readings::{Line, Reading};
@@ -24,6 +25,8 @@ fn regressions() {
     for question in [Check, Evaluate(5), Count, Implies(4, 2), Prime(4, 2), Reduce(7)] {
         again(Asked::new(worked(), question));
     }
+    again(Partial::new(worked(), 4, 0, &[1], &[5], &[7], &[8]));
+    again(Partial::new(worked(), 4, 0, &[1, 0], &[5, 5], &[7], &[8, 5]));
     again(Listing::new(Clearances, worked(), 4, [20, 20, 5], 1));
     again(Listing::new(Clearances, worked(), 3, [15, 15, 5], 1));
     again(Listing::new(Blockers, worked(), 2, [10, 10, 5], 1));

@@ -1,7 +1,8 @@
-//! The answers about an accepted circuit: verdict, count, the two tests on a row, striking down, and the clearances and blockers of
-//! every node.
+//! The answers about an accepted circuit: verdict, also for a half-known stow, count, the two tests on a row, striking down, and the
+//! clearances and blockers of every node.
 
 use super::function::{is_prime, values, Functions, Listed, Term, FEW};
+use super::measurements::Measurements;
 use super::table::{reachable, supports, Node, Table};
 use super::{counting, refused, rows, Refused};
 
@@ -14,6 +15,21 @@ pub struct Oracle {
 pub struct Accepted {
     nodes: Vec<Node>,
     functions: Option<Functions>,
+}
+
+/// What is answered for a half-known stow: the verdict, and how many completions are allowed and how many are forbidden.
+#[derive(Clone, Copy, Debug, PartialEq, Eq)]
+pub struct Completions {
+    pub verdict: Verdict,
+    pub allowed: u64,
+    pub forbidden: u64,
+}
+
+#[derive(Clone, Copy, Debug, PartialEq, Eq)]
+pub enum Verdict {
+    Forbidden,
+    Open,
+    Allowed,
 }
 
 impl Oracle {
@@ -68,6 +84,19 @@ impl Oracle {
         Ok(is_prime(term, |shorter| accepted.implies(shorter)))
     }
 
+    /// The row with the readings' marks added, by all its completions: allowed if every one is, forbidden if none is, else open.
+    pub fn evaluate_partial(&self, term: Term, measurements: &Measurements) -> Result<Completions, Refused> {
+        let accepted = self.accepted_for(term)?;
+        let known = measurements.added_to(term, self.variables)?;
+        let [allowed, forbidden] = [true, false].map(|value| accepted.completions(known, self.variables, value));
+        let verdict = match (allowed, forbidden) {
+            (_, 0) => Verdict::Allowed,
+            (0, _) => Verdict::Forbidden,
+            _ => Verdict::Open,
+        };
+        Ok(Completions { verdict, allowed, forbidden })
+    }
+
     /// All marks of the assignment, each struck in turn if the rest still implies.
     pub fn reduce(&self, assignment: u64) -> Result<Term, Refused> {
         if !self.evaluate(assignment)? {
@@ -101,7 +130,20 @@ impl Accepted {
         }
     }
 
+    /// How many assignments of that many variables agree with the term and give the circuit that value.
+    pub fn completions(&self, term: Term, variables: u32, counted: bool) -> u64 {
+        match &self.functions {
+            Some(functions) => functions.completions(term, variables, counted),
+            None => counting::completions(&self.nodes, term, variables, counted),
+        }
+    }
+
     /// The same by counting, to compare the two ways with each other.
+    pub fn completions_by_counting(&self, term: Term, variables: u32, counted: bool) -> u64 {
+        counting::completions(&self.nodes, term, variables, counted)
+    }
+
+    /// "forces" by counting, likewise.
     pub fn forces_by_counting(&self, term: Term, forced: bool) -> bool {
         counting::forces(&self.nodes, term, forced)
     }

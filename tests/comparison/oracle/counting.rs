@@ -1,5 +1,5 @@
-//! A second way to "count" and "forces", for more variables than can be tried: by shares of all assignments. Exact for accepted
-//! circuits.
+//! A second way to "count", "forces" and "completions", for more variables than can be tried: by shares of all assignments. Exact for
+//! accepted circuits.
 
 use super::function::Term;
 use super::table::Node;
@@ -35,6 +35,13 @@ pub fn forces(nodes: &[Node], term: Term, forced: bool) -> bool {
     share(nodes, term) == if forced { ALL } else { 0 }
 }
 
+/// How many assignments of that many variables agree with the term and give the circuit that value.
+pub fn completions(nodes: &[Node], term: Term, variables: u32, counted: bool) -> u64 {
+    let share = share(nodes, term);
+    let unknown = variables - term.marks().count_ones();
+    ((if counted { share } else { ALL - share }) >> (40 - unknown)) as u64
+}
+
 pub fn count_models(nodes: &[Node], variables: u32) -> u64 {
-    (share(nodes, Term { positive: 0, negative: 0 }) >> (40 - variables)) as u64
+    (share(nodes, Term::EMPTY) >> (40 - variables)) as u64
 }

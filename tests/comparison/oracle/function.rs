@@ -10,6 +10,9 @@ pub struct Term {
 }
 
 impl Term {
+    /// The row without marks.
+    pub const EMPTY: Term = Term { positive: 0, negative: 0 };
+
     pub fn marks(self) -> u64 {
         self.positive | self.negative
     }
@@ -113,11 +116,22 @@ impl Functions {
         self.truth.last().expect("a node")
     }
 
-    /// Whether every assignment that agrees with the term gives the circuit that value.
-    pub fn forces(&self, term: Term, forced: bool) -> bool {
+    /// The circuit's values on the assignments of the tried variables that agree with the term.
+    fn agreeing(&self, term: Term) -> impl Iterator<Item = bool> + '_ {
         let term = term.within(self.tried.iter().fold(0, |mask, variable| mask | 1 << variable));
         let whole = self.assignments.iter().zip(self.whole());
-        whole.filter(|(assignment, _)| term.agrees_with(**assignment)).all(|(_, &value)| value == forced)
+        whole.filter(move |(assignment, _)| term.agrees_with(**assignment)).map(|(_, &value)| value)
+    }
+
+    /// Whether every assignment that agrees with the term gives the circuit that value.
+    pub fn forces(&self, term: Term, forced: bool) -> bool {
+        self.agreeing(term).all(|value| value == forced)
+    }
+
+    /// How many assignments of that many variables agree with the term and give the circuit that value.
+    pub fn completions(&self, term: Term, variables: u32, counted: bool) -> u64 {
+        let untried = (0..variables).filter(|variable| !self.tried.contains(variable) && term.marks() >> variable & 1 == 0);
+        (self.agreeing(term).filter(|&value| value == counted).count() as u64) << untried.count()
     }
 }
 

@@ -7,13 +7,14 @@ pub mod counting;
 pub mod function;
 pub mod grammar;
 pub mod listing;
+pub mod measurements;
 pub mod rows;
 pub mod table;
 pub mod text;
 pub mod view;
 pub mod writer;
 
-/// A refusal: its number, and its byte, its node or the needed length.
+/// A refusal: its number, and its byte, its node, its reading or the needed length.
 #[derive(Clone, Copy, Debug, PartialEq, Eq)]
 pub struct Refused {
     pub number: u32,

@@ -1,7 +1,8 @@
 //! The engine beside the same algorithm by hand, the algorithm before, decision diagrams, and a truth table, family by family, for
 //! clearances and then for blockers: `cargo run --release`. With `-- worst` the worst circuits found; the algorithm before does not run
-//! on those marked slow, and with `-- worst by-hand` the engine does not either. With `-- search` a search for bad circuits. A listing
-//! of every node clears the lent buffers first, and that is in its time.
+//! on those marked slow, and with `-- worst by-hand` the engine does not either. With `-- search` a search for bad circuits. With
+//! `-- partial` the verdict for a partial assignment beside the count of models. A listing of every node clears the lent buffers first,
+//! and that is in its time.
 mod buffers;
 mod by_hand;
 mod by_hand_before;
@@ -14,6 +15,7 @@ mod families;
 mod listing;
 mod measure;
 mod part;
+mod partial;
 mod random;
 mod search;
 mod sides;
@@ -138,6 +140,7 @@ fn main() {
         ["worst"] => [Of::Function, Of::Negation].into_iter().for_each(|of| worst(of, false)),
         ["worst", "by-hand"] => [Of::Function, Of::Negation].into_iter().for_each(|of| worst(of, true)),
         ["search"] => searched(),
-        _ => stop("the commands are none, worst, worst by-hand, and search"),
+        ["partial"] => partial::print(),
+        _ => stop("the commands are none, worst, worst by-hand, search, and partial"),
     }
 }

@@ -25,6 +25,17 @@ pub enum Verdict {
     Allowed,
 }
 
+// The scope's number of a verdict.
+pub fn verdict_number(v: Verdict) -> u32
+    ensures { λ r. ⌜ r ≡ verdictNumber v ⌝ }
+{
+    match v {
+        Verdict::Forbidden => 0,
+        Verdict::Open => 1,
+        Verdict::Allowed => 2,
+    }
+}
+
 // The verdict, and how many completions satisfy the circuit and how many do not.
 pub struct Judgement {
     pub verdict: Verdict,

@@ -33,6 +33,9 @@ number m = (m, (0, 0))
 abbrev pub numbers : ℕ × ℕ → ℕ × (ℕ × ℕ)
 numbers p = (p .0, (p .1, 0))
 
+abbrev pub triple : ℕ × (ℕ × ℕ) → ℕ × (ℕ × ℕ)
+triple p = p
+
 abbrev pub truth : Bool → ℕ × (ℕ × ℕ)
 truth b = (cond b 1 0, (0, 0))
 

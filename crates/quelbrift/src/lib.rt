@@ -7,20 +7,25 @@ ghost use Rattle.table.specs.Outcome.{answered};
 ghost use Rattle.text.specs.AssignmentLine.{readAssignment};
 ghost use Rattle.text.specs.Read.{readText};
 ghost use Rattle.text.specs.Write.{writeTable};
+ghost use Rattle.measurements.specs.Measurement.{measurements};
 ghost use Rattle.circuits.specs.Check.{check};
 ghost use Rattle.queries.specs.Answers.{tested};
 ghost use Rattle.queries.specs.Queries.{evaluation, modelCount, implicantTest, primeTest, reduction};
+ghost use Rattle.partial.specs.Answers.{partialOutcome};
+ghost use Rattle.partial.specs.Partial.{partialEvaluation};
 ghost use Rattle.listing.specs.Listing.{lent, listTable, listed, viewed};
-ghost use Rattle.quelbrift.specs.Boundary.{version, answerOf, nothing, number, numbers, truth, masks, placed};
+ghost use Rattle.quelbrift.specs.Boundary.{version, answerOf, nothing, number, numbers, triple, truth, masks, placed};
 
 mod answer;
 
 use answer::Answer;
 use answer::done;
+use answer::done_three;
 use answer::done_truth;
 use answer::refused;
 use answer::refused_by;
 use listing::Listing;
+use partial::PartialEvaluation;
 use queries::Counted;
 use queries::Evaluation;
 use queries::Reduction;
@@ -164,6 +169,50 @@ pub extern "C" fn quelbrift_reduce(
         Reduction::Reduced(t) => done(t.positive, t.negative),
         Reduction::Refused(why) => refused_by(why),
     }
+}
+
+// The answer to a partial assignment: the verdict and the numbers of its completions.
+fn partial_answer(r: PartialEvaluation) -> Answer
+    ensures { λ a. ⌜ a ≡ answerOf triple (partialOutcome r) ⌝ }
+{
+    match r {
+        PartialEvaluation::Judged(j) => {
+            let v = j.verdict;
+            done_three(partial::verdict_number(v) as u64, j.allowed, j.forbidden)
+        }
+        PartialEvaluation::Measurement(i) => refused(53, i as u64),
+        PartialEvaluation::Refused(why) => refused_by(why),
+    }
+}
+
+// The verdict for a term with the measurements' literals: 2 where every completion satisfies the circuit, 0 where none does, else 1;
+// and how many completions do and do not.
+#[no_mangle]
+pub extern "C" fn quelbrift_evaluate_partial(
+    words: &[u32],
+    variables: u32,
+    nodes: u32,
+    positive: u64,
+    negative: u64,
+    measured: &[u32],
+    lows: &[i32],
+    highs: &[i32],
+    thresholds: &[i32],
+) -> Answer
+    ensures { λ r. ⌜ r ≡ answerOf triple
+        (partialEvaluation variables nodes (now (words .entry)) (record { positive = positive; negative = negative })
+        (measurements (now (measured .entry)) (now (lows .entry)) (now (highs .entry)) (now (thresholds .entry)))) ⌝ }
+{
+    partial_answer(partial::evaluate_partial(
+        words,
+        variables,
+        nodes,
+        Term { positive, negative },
+        measured,
+        lows,
+        highs,
+        thresholds,
+    ))
 }
 
 // The answer of a listing.

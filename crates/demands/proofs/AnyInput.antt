@@ -15,6 +15,7 @@ use Rattle.queries.specs.Queries.{circuit, evaluation, modelCount, implicantTes
 use Rattle.demands.specs.Demands.{At, Answers, tableRefusals, AnyInput}
 use Rattle.demands.proofs.Answers.{answers-test, check-answers, question-answers, tested-answers}
 use Rattle.demands.proofs.Listing.{list-answers, list-kept, list-zeroed, list-rest, view-part, view-none}
+use Rattle.demands.proofs.Partial.{partial-answers}
 use Rattle.demands.proofs.Reading.{read-answers, read-zeros, line-answers}
 use Rattle.demands.proofs.Unread.{same-answers}
 use Rattle.demands.proofs.Writing.{write-answers, write-needed, write-kept, write-rest}
@@ -42,6 +43,7 @@ any-input =
       implies = λ N n w t. tested-answers N n w (isTerm N t) 32 [] (answered (implicant N (circuit n w) t)) tt;
       prime = λ N n w t. tested-answers N n w (isTerm N t) 32 [] (answered (prime N (circuit n w) t)) tt;
       reduce = reduce-answers;
+      partial = λ N n w t m. partial-answers N t m n w;
       list = list-answers;
       list-refused = list-kept;
       list-lack = list-zeroed;

@@ -1,4 +1,5 @@
 pub mod Answers
+pub mod Partial
 pub mod Reading
 pub mod Writing
 pub mod Listing

@@ -25,6 +25,7 @@ use Rattle.checks.proofs.Arguments.{assignment-i, term-i}
 use Rattle.queries.specs.Queries.{circuit, evaluation, modelCount, implicantTest, primeTest, assignmentTerm, reduction}
 use Rattle.queries.proofs.Struck.{reduction-prime}
 use Rattle.demands.specs.Demands.{Decides, ReducedTo, Means, OneMeaning}
+use Rattle.demands.proofs.Partial.{partial-judged}
 
 module _ (N n : ℕ) (w : List ℕ) (acc : check N n w ≡ accepted) where
   models : modelCount N n w ≡ answered (count (2 ^ N) (circuit n w))
@@ -83,6 +84,7 @@ module _ (N n : ℕ) (w : List ℕ) (acc : check N n w ≡ accepted) where
         prime = primes;
         reduced = reduced;
         unsatisfied = unsatisfied;
+        partial = λ t m h none. partial-judged N t m h none n w acc;
       }
 
 pub one-meaning : OneMeaning

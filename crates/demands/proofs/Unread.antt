@@ -20,6 +20,7 @@ use Rattle.text.specs.Write.{nodeForm, tableText, writeChecked, writeTable}
 use Rattle.terms.specs.Prime.{implicant, prime, primes, reduce}
 use Rattle.terms.specs.Term.{isTerm, mask}
 use Rattle.terms.specs.declared.Term.{Term}
+use Rattle.measurements.specs.Measurement.{entries, measuredTerm, checkMeasurements, Measurements}
 use Rattle.circuits.specs.Check.{check}
 use Rattle.circuits.specs.Function.{signed, signedFunction}
 use Rattle.circuits.proofs.Accepted.{accepted-e}
@@ -27,6 +28,7 @@ use Rattle.circuits.proofs.Unread.{fault-same, node-same, function-same, malfor
 use Rattle.circuits.proofs.Unread.{rest-same, SameNodes}
 use Rattle.checks.specs.Arguments.{checkAssignment, checkTerm}
 use Rattle.queries.specs.Queries.{circuit, evaluation, modelCount, implicantTest, primeTest, assignmentTerm, reduction}
+use Rattle.partial.specs.Partial.{judgement, partialEvaluation}
 use Rattle.listing.specs.Listing.{lent, Lent, nodePrimes, padded, listedMasks, listedCounts, suffices, exceeds, untouched, cleared}
 use Rattle.listing.specs.Listing.{filled, listChecked, listTable, ListOut}
 use Rattle.demands.specs.Demands.{SameAnswers}
@@ -98,6 +100,12 @@ module _ (N n : ℕ) (w v : List ℕ) (long : wordsFor n ≤ length w) where
   reduce-unread s =
       tested-unread (cond (within N s) accepted (refused 31 0))
       (λ f. cond (f s) (answered (reduce N f (assignmentTerm s N) N)) (refused 33 0))
+
+  partial-unread : (t : Term) (m : Measurements) → partialEvaluation N n w′ t m ≡ partialEvaluation N n w t m
+  unfolding partialEvaluation checkTerm
+  partial-unread t m =
+      tested-unread (cond (isTerm N t) accepted (refused 32 0))
+      (λ f. after (checkMeasurements N t m) (answered (judgement N f (measuredTerm t m (entries m)))))
 
   -- ---- the listing
   module _ (c : Bool) where
@@ -176,5 +184,6 @@ module _ (N n : ℕ) (w v : List ℕ) (long : wordsFor n ≤ length w) where
         implies = implies-unread;
         prime = prime-unread;
         reduce = reduce-unread;
+        partial = partial-unread;
         list = list-unread;
       }

@@ -1,13 +1,13 @@
 -- The demands on the engine, each as one statement over the definitions that the contracts of the exported functions cite.
 -- N is a number of variables, n of nodes, w a table's words; a place is a number of bytes, a node or a needed length.
 use Prim.Native.Nat.{ℕ, pred, _+_, _-_, _*_, _^_, _<_, _≤_}
-use mathlib.Core.Bool.{Bool, true, false, not}
+use mathlib.Core.Bool.{Bool, true, false, _&&_, not}
 use mathlib.Core.List.{List·Memᴰ, List, [], _∷_, _++_}
 use lib.Dec.{T}
 use lib.ListN.{getD, length, take, drop, replicate}
 use mathlib.Core.Path.{_≡_}
 use mathlib.Core.Logic.{_⊎_, _≢_}
-use Rattle.masks.specs.Numbers.{count}
+use Rattle.masks.specs.Numbers.{count, Lowest}
 use Rattle.table.specs.Layout.{wordsFor}
 use Rattle.table.specs.Node.{nodeAt, maxNodes}
 use Rattle.table.specs.Outcome.{accepted, Outcome, answered, refused}
@@ -23,11 +23,13 @@ use Rattle.text.specs.Write.{tableText, writeTable}
 use Rattle.terms.specs.Lists.{Rising}
 use Rattle.terms.specs.Order.{before}
 use Rattle.terms.specs.Prime.{Implicant, Prime}
-use Rattle.terms.specs.Term.{Agrees, IsTerm, termsOf}
+use Rattle.terms.specs.Term.{has, mentions, variables, agrees, Agrees, IsTerm, termsOf}
 use Rattle.terms.specs.declared.Term.{Term}
+use Rattle.measurements.specs.Measurement.{entries, variableAt, lowAt, highAt, thresholdAt, says, wrong, Measurements}
 use Rattle.circuits.specs.Check.{check}
 use Rattle.circuits.specs.Function.{function, nodeValue}
 use Rattle.queries.specs.Queries.{circuit, evaluation, modelCount, implicantTest, primeTest, reduction}
+use Rattle.partial.specs.Partial.{partialEvaluation}
 use Rattle.lists.specs.Capacity.{maxCapacity}
 use Rattle.listing.specs.Listing.{lent, Lent, nodePrimes, listTable, viewed, ListOut}
 
@@ -84,6 +86,7 @@ pub record SameAnswers (N n : ℕ) (w w′ : List ℕ) : Type 0 where
   pub implies : (t : Term) → implicantTest N n w′ t ≡ implicantTest N n w t
   pub prime : (t : Term) → primeTest N n w′ t ≡ primeTest N n w t
   pub reduce : (s : ℕ) → reduction N n w′ s ≡ reduction N n w s
+  pub partial : (t : Term) (m : Measurements) → partialEvaluation N n w′ t m ≡ partialEvaluation N n w t m
   pub list : (c : Bool) (R : ℕ) (b : Lent) → listTable c N n w′ R b ≡ listTable c N n w R b
 
 -- ---- demand 1: every operation takes any input and does its work or refuses by a number of the scope, at a place that the
@@ -115,6 +118,9 @@ pub record AnyInput : Type 0 where
   -- the reduction of the assignment s
   pub reduce : (N n : ℕ) (w : List ℕ) (s : ℕ)
       → Answers (tableRefusals n ++ ((31, At 0) ∷ (33, At 0) ∷ [])) (reduction N n w s)
+  -- the judgement of the term t with the measurements m: 53 comes with the lowest wrong one
+  pub partial : (N n : ℕ) (w : List ℕ) (t : Term) (m : Measurements)
+      → Answers (tableRefusals n ++ ((32, At 0) ∷ (53, Lowest (wrong N (variables t) m)) ∷ [])) (partialEvaluation N n w t m)
   -- listing with the capacity R into the buffers b: the nodes' functions where c is true, their negations where it is false
   pub list : (c : Bool) (N n : ℕ) (w : List ℕ) (R : ℕ) (b : Lent)
       → Answers (tableRefusals n ++ ((41, At 0) ∷ (42, At 0) ∷ [])) (listTable c N n w R b .answer)
@@ -143,7 +149,7 @@ pub record AnyInput : Type 0 where
   -- words past those of the nodes are not read: any v may stand there
   pub unread : (N n : ℕ) (w v : List ℕ) → wordsFor n ≤ length w → SameAnswers N n w (take (wordsFor n) w ++ v)
 
--- ---- demand 2: verdict, count, tests and reduction agree with the Boolean function of the circuit, which is its last node's; the
+-- ---- demand 2: verdicts, count, tests and reduction agree with the Boolean function of the circuit, which is its last node's; the
 -- reading answers what the grammar says, and a table that is written is read in again
 -- an answer that is yes exactly if P holds
 abbrev pub Decides : Outcome Bool → Type 0 → Type 0
@@ -154,6 +160,32 @@ Decides (refused k p) P = ⊥
 abbrev pub ReducedTo : ℕ → (ℕ → Bool) → ℕ → Outcome Term → Type 0
 ReducedTo N f s (answered t) = Prime N f t × Agrees t s
 ReducedTo N f s (refused k p) = ⊥
+
+-- u is the term t with what each of the measurements m says of its variable, and nothing else
+pub record Adds (N : ℕ) (t : Term) (m : Measurements) (u : Term) : Type 0 where
+  pub isTerm : IsTerm N u
+  pub kept : (b : Bool) (x : ℕ) → T (has t b x) → T (has u b x)
+  pub added : (i : ℕ) (b : Bool) → i < entries m → T (says (lowAt m i) (highAt m i) (thresholdAt m i) b) → T (has u b (variableAt m i))
+  pub only : (b : Bool) (x : ℕ) → T (has u b x)
+      → T (has t b x) ⊎ ((i : ℕ) × (i < entries m) × (variableAt m i ≡ x) × T (says (lowAt m i) (highAt m i) (thresholdAt m i) b))
+
+-- the verdict v on the partial assignment u, and how many of its completions make f true, a, and false, b
+pub record Judged (N : ℕ) (f : ℕ → Bool) (u : Term) (v a b : ℕ) : Type 0 where
+  -- 2 exactly if every completion makes f true, 0 exactly if none does, and 1 otherwise
+  pub allowed : (v ≡ 2 → Implicant N f u) × (Implicant N f u → v ≡ 2)
+  pub forbidden : (v ≡ 0 → Implicant N (λ s. not (f s)) u) × (Implicant N (λ s. not (f s)) u → v ≡ 0)
+  pub range : v ≤ 2
+  -- so exactly if the other number is 0; together they are 2 to the power of the variables without a literal
+  pub no-false : (v ≡ 2 → b ≡ 0) × (b ≡ 0 → v ≡ 2)
+  pub no-true : (v ≡ 0 → a ≡ 0) × (a ≡ 0 → v ≡ 0)
+  pub trues : a ≡ count (2 ^ N) (λ s. agrees N u s && f s)
+  pub falses : b ≡ count (2 ^ N) (λ s. agrees N u s && not (f s))
+  pub sum : a + b ≡ 2 ^ count N (λ x. not (mentions u x))
+
+-- the answer is such a judgement of t with the measurements m
+abbrev pub JudgedWith : ℕ → (ℕ → Bool) → Term → Measurements → Outcome (ℕ × (ℕ × ℕ)) → Type 0
+JudgedWith N f t m (answered r) = (u : Term) × Adds N t m u × Judged N f u (r .0) (r .1 .0) (r .1 .1)
+JudgedWith N f t m (refused k p) = ⊥
 
 -- an accepted circuit
 pub record Means (N n : ℕ) (w : List ℕ) : Type 0 where
@@ -168,6 +200,9 @@ pub record Means (N n : ℕ) (w : List ℕ) : Type 0 where
   -- the reduction of a satisfying assignment, and 33 for any other
   pub reduced : (s : ℕ) → s < 2 ^ N → T (circuit n w s) → ReducedTo N (circuit n w) s (reduction N n w s)
   pub unsatisfied : (s : ℕ) → s < 2 ^ N → T (not (circuit n w s)) → reduction N n w s ≡ refused 33 0
+  -- a partial assignment with measurements of which none is wrong
+  pub partial : (t : Term) (m : Measurements) → IsTerm N t → ((i : ℕ) → i < entries m → T (not (wrong N (variables t) m i)))
+      → JudgedWith N (circuit n w) t m (partialEvaluation N n w t m)
 
 pub record OneMeaning : Type 0 where
   -- the questions to every accepted circuit

@@ -9,7 +9,7 @@ use native.Mathlib.Nat.{not-suc-le-zero, le-refl, add-zero, zero-add, le-trans, 
 use native.Mathlib.Omega.{arith}
 use lib.Dec.{T, eqb, ltb, ltb→lt, nltb→le}
 use borrow.Author.Tests.{ne-eqb}
-use Rattle.masks.specs.Numbers.{digit, implied, every, some, count, least, below}
+use Rattle.masks.specs.Numbers.{digit, implied, every, some, count, least, below, Lowest}
 use Rattle.masks.proofs.Tests.{and-i, and-l, and-r, or-l, or-r, or-cases, is-true, is-false, along, below-suc}
 
 pub every-e : (n : ℕ) (p : ℕ → Bool) → T (every n p) → (i : ℕ) → i < n → T (p i)
@@ -173,6 +173,18 @@ least-none (suc n) p h i l = go (ltb (least n p) n) refl (p n) refl h (least-non
         ⊎-elim (λ (d : i ≡ n). subst (λ (k : ℕ). T (not (p k))) (sym d) (along (ap not (sym f)) tt))
         (λ (k : i < n). r (nltb→le (least n p) n (along (ap not (sym e)) tt)) i k)
         (below-suc l)
+
+-- the least number is one that passes, and none below it does
+pub least-lowest : (n : ℕ) (p : ℕ → Bool) → least n p < n → Lowest p (least n p)
+unfolding least
+least-lowest zero p l = absurd (not-suc-le-zero l)
+least-lowest (suc n) p l = by (ltb (least n p) n) refl (p n) refl (least-lowest n p) l
+  where
+    by : (b : Bool) → ltb (least n p) n ≡ b → (c : Bool) → p n ≡ c → (least n p < n → Lowest p (least n p))
+        → let k : ℕ = cond b (least n p) (cond c n (suc n)) in k < suc n → Lowest p k
+    by true e c d h l = h (ltb→lt (least n p) n (along (sym e) tt))
+    by false e true d h l = (along (sym d) tt, least-none n p (nltb→le (least n p) n (along (ap not (sym e)) tt)))
+    by false e false d h l = absurd (omega arith)
 
 pub below-mem : (n i : ℕ) → i < n → List·Memᴰ i (below n)
 unfolding below

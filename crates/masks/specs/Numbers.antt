@@ -1,8 +1,8 @@
 -- Tests of the numbers below a bound.
-use Prim.Native.Nat.{ℕ, zero, suc, _+_}
-use mathlib.Core.Bool.{Bool, true, false, _&&_, _||_, cond}
+use Prim.Native.Nat.{ℕ, zero, suc, _+_, _<_}
+use mathlib.Core.Bool.{Bool, true, false, _&&_, _||_, not, cond}
 use mathlib.Core.List.{List, [], _∷_, _++_}
-use lib.Dec.{ltb}
+use lib.Dec.{T, ltb}
 
 -- 1 for true, 0 for false
 abbrev pub digit : Bool → ℕ
@@ -38,3 +38,7 @@ least (suc n) p = let l : ℕ = least n p in cond (ltb l n) l (cond (p n) n (suc
 unfoldable pub below : ℕ → List ℕ
 below zero = []
 below (suc n) = below n ++ (n ∷ [])
+
+-- ---- as a statement: k passes the test p, and no lower number does
+abbrev pub Lowest : (ℕ → Bool) → ℕ → Type 0
+Lowest p k = T (p k) × ((i : ℕ) → i < k → T (not (p i)))

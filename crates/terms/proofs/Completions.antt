@@ -6,6 +6,7 @@ use native.Mathlib.Nat.{eq-of-mul-eq-mul-right, mul-comm}
 use native.Mathlib.Omega.{arith}
 use lib.Dec.{T, T-not, not-T, eqb}
 use lib.Pow.{pow-add, pow-pos}
+use borrow.Author.Tests.{eqb-true, eq-eqb}
 use Rattle.masks.specs.Numbers.{count}
 use Rattle.masks.proofs.Numbers.{count-ext, count-all, count-not, count-split, every-count}
 use Rattle.masks.proofs.Tests.{is-true, is-false, along}
@@ -23,7 +24,7 @@ byTests a b = cond a 2 (cond b 0 1)
 
 module _ (N : ℕ) (t : Term) where
   -- every completion makes f true exactly if none makes it false
-  pub implicant-count : (f : ℕ → Bool) → implicant N f t ≡ eqb (modelsUnder N (λ s. not (f s)) t) 0
+  implicant-count : (f : ℕ → Bool) → implicant N f t ≡ eqb (modelsUnder N (λ s. not (f s)) t) 0
   unfolding implicant modelsUnder
   implicant-count f = every-count (2 ^ N) (agrees N t) f
 
@@ -106,3 +107,21 @@ module _ (N : ℕ) (t : Term) where
           by true b = omega arith
           by false true = omega arith
           by false false = omega arith
+
+      -- the verdicts by the numbers
+      pub no-false-e : verdict N f t ≡ 2 → modelsUnder N negated t ≡ 0
+      no-false-e e =
+          eqb-true (modelsUnder N negated t) 0
+          (sym (implicant-count f) ∙ is-true (implicant N f t) (implicant-i N f t h (allowed-e e)))
+
+      pub no-false-i : modelsUnder N negated t ≡ 0 → verdict N f t ≡ 2
+      no-false-i e = allowed-i (implicant-e N f t (along (sym (implicant-count f ∙ eq-eqb (modelsUnder N negated t) 0 e)) tt))
+
+      pub no-true-e : verdict N f t ≡ 0 → modelsUnder N f t ≡ 0
+      no-true-e e =
+          eqb-true (modelsUnder N f t) 0
+          (sym (negated-count f) ∙ is-true (implicant N negated t) (implicant-i N negated t h (forbidden-e e)))
+
+      pub no-true-i : modelsUnder N f t ≡ 0 → verdict N f t ≡ 0
+      no-true-i e =
+          forbidden-i (implicant-e N negated t (along (sym (negated-count f ∙ eq-eqb (modelsUnder N f t) 0 e)) tt))

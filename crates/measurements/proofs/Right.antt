@@ -1,10 +1,9 @@
 -- Measurements of which none is wrong: the term with their literals.
-use Prim.Native.Nat.{ℕ, zero, suc, _≤_, _<_}
+use Prim.Native.Nat.{ℕ, _≤_, _<_}
 use mathlib.Core.Path.{_≡_, refl, sym, ap, subst, _∙_}
 use mathlib.Core.Bool.{Bool, true, false, _||_, not, cond}
-use mathlib.Core.Logic.{⊎-elim}
 use native.Mathlib.Omega.{arith}
-use lib.Dec.{T, T-not, leb, ltb, eqb, nleb→lt}
+use lib.Dec.{T, leb, ltb, eqb, nleb→lt}
 use lib.Signed.{ltZ}
 use borrow.Author.Tests.{ltb-false, lt-ltb, le-ltb}
 use Rattle.masks.specs.Mask.{width, bit}
@@ -77,7 +76,8 @@ module _ (N : ℕ) (t : Term) (m : Measurements) where
   unfolding measurement
   known-passed u e = after-answered (checkMeasurements N t m) (measuredTerm t m (entries m)) u e
 
-  pub wrong-stands : {A : Type 0} (o : Outcome A) (k i : ℕ) → measurement N t m ≡ refused k i → refused k i ≡ after (checkMeasurements N t m) o
+  pub wrong-stands : {A : Type 0} (o : Outcome A) (k i : ℕ) → measurement N t m ≡ refused k i
+      → refused k i ≡ after (checkMeasurements N t m) o
   unfolding measurement
   wrong-stands o k i e = after-refused (checkMeasurements N t m) (measuredTerm t m (entries m)) o k i e
 

@@ -1,12 +1,11 @@
 -- The walk over the measurements: which are wrong, and the lowest of these.
 use Prim.Native.Nat.{ℕ, zero, suc, min, _+_, _≤_, _<_}
-use mathlib.Core.Path.{_≡_, refl, sym, ap, ap₂, _∙_}
-use mathlib.Core.Bool.{Bool, true, false, _||_, not, cond, or-true, or-false, or-assoc}
+use mathlib.Core.Path.{_≡_, refl, sym, ap, _∙_}
+use mathlib.Core.Bool.{Bool, true, false, _||_, cond, or-true, or-false, or-assoc}
 use mathlib.Core.Logic.{⊎-elim}
-use native.Mathlib.Nat.{le-refl, le-trans, min-le-left, min-le-right, le-max-left}
+use native.Mathlib.Nat.{le-trans, min-le-left, min-le-right, le-max-left}
 use native.Mathlib.Numerals.{add-one}
-use native.Mathlib.Omega.{arith}
-use lib.Dec.{T, leb, eqb}
+use lib.Dec.{leb, eqb}
 use lib.ListN.{length}
 use lib.Signed.{ltZ}
 use borrow.Author.Tests.{le-leb, lt-leb}

@@ -1,6 +1,6 @@
 -- The completions of a partial assignment: how many there are, and the verdict by the two numbers of them.
 use Prim.Native.Nat.{ℕ, _+_, _*_, _^_, _≤_}
-use mathlib.Core.Path.{_≡_, refl, sym, ap, ap₂, subst, _∙_, fun-ext}
+use mathlib.Core.Path.{_≡_, refl, sym, ap, ap₂, _∙_, fun-ext}
 use mathlib.Core.Bool.{Bool, true, false, _&&_, not, cond, and-true, Bool·not-not}
 use native.Mathlib.Nat.{eq-of-mul-eq-mul-right, mul-comm}
 use native.Mathlib.Omega.{arith}
@@ -12,7 +12,7 @@ use Rattle.masks.proofs.Numbers.{count-ext, count-all, count-not, count-split, 
 use Rattle.masks.proofs.Tests.{is-true, is-false, along}
 use Rattle.terms.specs.Completions.{modelsUnder, unknowns, verdict}
 use Rattle.terms.specs.Prime.{implicant, Implicant}
-use Rattle.terms.specs.Term.{mentions, agrees, Agrees, IsTerm}
+use Rattle.terms.specs.Term.{mentions, agrees, IsTerm}
 use Rattle.terms.specs.declared.Term.{Term}
 use Rattle.terms.proofs.Counts.{count-agrees}
 use Rattle.terms.proofs.Implicants.{implicant-e, implicant-i}

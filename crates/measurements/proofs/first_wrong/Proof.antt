@@ -1,4 +1,4 @@
--- `measurements::first_wrong` meets its contract. The invariant: none of the measurements before `i` is wrong, and their variables are seen.
+-- `measurements::first_wrong` meets its contract. The invariant: no measurement before `i` is wrong, and their variables are seen.
 use Prim.Native.Nat.{ℕ, _-_, _≤_, _<_}
 use mathlib.Core.Path.{_≡_, sym, ap, subst, _∙_}
 use mathlib.Core.Bool.{Bool, _||_}
@@ -127,8 +127,9 @@ returns-2 c =
     let l = c .before in
     let s = l .before .before .before in
     let e : l .before .shortest .result ≡ complete (lists s) = l .before .shortest .ensures in
-    first-end (lists s) (s .args .variables) (s .args .known) (l .loop .i) (omega (arith, l .loop .inv .0)) (omega (arith, c .loop-test .left))
-    (l .loop .inv .2)
+    let below = l .loop .inv .0 in
+    let past = c .loop-test .left in
+    first-end (lists s) (s .args .variables) (s .args .known) (l .loop .i) (omega arith) (omega arith) (l .loop .inv .2)
 
 pub first-wrong-spec : {M : Type 1} → statement M
 first-wrong-spec =

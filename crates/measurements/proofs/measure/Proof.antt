@@ -43,7 +43,8 @@ returns c =
     some-wrong (start f .args .variables) (start f .args .t) (m f) (first f)
     (subst (λ (z : ℕ). f .first-wrong .result < z) (long f) (c .if1 .taken))
 
-none : (e : tie.Else1) → entries (m (e .before)) ≤ firstWrong (start (e .before) .args .variables) (variables (start (e .before) .args .t)) (m (e .before))
+none : (e : tie.Else1) → let f = e .before in
+    entries (m f) ≤ firstWrong (start f .args .variables) (variables (start f .args .t)) (m f)
 none e = let f = e .before in omega (arith, e .if1 .left, long f, first f)
 
 with-all-requires : tie.Need-with-all-requires

@@ -1,5 +1,4 @@
 -- `partial::verdict_of` meets its contract.
-use borrow.Author.Needs.{needs}
 use Rattle.partial.proofs.Judged.{none-false, none-true, some-each}
 use Rattle.partial.proofs.verdict_of.Statement.{statement}
 use Rattle.partial.proofs.verdict_of.Tie as tie

@@ -4,6 +4,9 @@ use libc::STDIN_FILENO;
 use libc::STDOUT_FILENO;
 use output::refusals::fault_line;
 use output::refusals::table_refusal_line;
+use partial::Judgement;
+use partial::PartialEvaluation;
+use partial::Verdict;
 use queries::Counted;
 use queries::Evaluation;
 use queries::Reduction;
@@ -12,12 +15,19 @@ use table::MAX_NODES;
 use table::Refusal;
 use table::layout::NODE_WORDS;
 use terms::Term;
+use text::answer::Fault;
 use text::answer::Reading;
 use text::limits::MAX_BYTES;
 
 fn print_refusal(why: Refusal) {
     let mut line = [0u8; 512];
     let n = table_refusal_line(&mut line, why);
+    print(&line, n);
+}
+
+fn print_fault(fault: Fault, place: usize) {
+    let mut line = [0u8; 512];
+    let n = fault_line(&mut line, fault, place);
     print(&line, n);
 }
 
@@ -32,6 +42,31 @@ fn print_answer(is_yes: bool) {
 fn print_term(t: Term) {
     let mut line = [0u8; 512];
     let n = output::term_line(&mut line, t);
+    print(&line, n);
+}
+
+// The verdict's word.
+fn print_verdict(v: Verdict) {
+    match v {
+        Verdict::Forbidden => print(b"(forbidden ", 11),
+        Verdict::Open => print(b"(open ", 6),
+        Verdict::Allowed => print(b"(allowed ", 9),
+    }
+}
+
+fn print_judgement(j: Judgement) {
+    let v = j.verdict;
+    print_verdict(v);
+    io::print_decimal(STDOUT_FILENO, j.allowed);
+    print(b" ", 1);
+    io::print_decimal(STDOUT_FILENO, j.forbidden);
+    print(b")\n", 2);
+}
+
+// 53 with the measurement.
+fn print_wrong(i: usize) {
+    let mut line = [0u8; 512];
+    let n = output::refusal_line(&mut line, 53, i as u64);
     print(&line, n);
 }
 
@@ -74,21 +109,94 @@ fn reduce(words: &[u32], variables: u32, nodes: u32, assignment: u64) {
     }
 }
 
+// The judgement of a partial assignment: a term, and measurements of variables.
+fn judge(
+    words: &[u32],
+    variables: u32,
+    nodes: u32,
+    positive: u64,
+    negative: u64,
+    measured: &[u32],
+    lows: &[i32],
+    highs: &[i32],
+    thresholds: &[i32],
+) {
+    let t = Term { positive, negative };
+    match partial::evaluate_partial(
+        words,
+        variables,
+        nodes,
+        t,
+        measured,
+        lows,
+        highs,
+        thresholds,
+    ) {
+        PartialEvaluation::Refused(why) => print_refusal(why),
+        PartialEvaluation::Measurement(i) => print_wrong(i),
+        PartialEvaluation::Judged(j) => print_judgement(j),
+    }
+}
+
 // Asks the questions of the circuit of a text, with one assignment and one term.
 fn ask(text: &[u8], assignment: u64, positive: u64, negative: u64) {
     let mut words = [0u32; NODE_WORDS * (MAX_NODES as usize)];
     match text_reader::reader::read(text, &mut words) {
-        Reading::Refused(fault, place) => {
-            let mut line = [0u8; 512];
-            let n = fault_line(&mut line, fault, place);
-            print(&line, n);
-        }
+        Reading::Refused(fault, place) => print_fault(fault, place),
         Reading::Circuit(variables, nodes) => {
             count(&words, variables, nodes);
             evaluate(&words, variables, nodes, assignment);
             test(&words, variables, nodes, Term { positive, negative });
             reduce(&words, variables, nodes, assignment);
+            judge(
+                &words,
+                variables,
+                nodes,
+                positive,
+                negative,
+                &[],
+                &[],
+                &[],
+                &[],
+            );
         }
+    }
+    print(b"\n", 1);
+}
+
+// Measurements: variable 0 true and 1 left unknown; 1 true, where the term has 0 false; 0 false, and 1, which the term has.
+fn measured_questions(words: &[u32], variables: u32, nodes: u32) {
+    judge(
+        words,
+        variables,
+        nodes,
+        0,
+        0,
+        &[0, 1],
+        &[10, -3],
+        &[12, 3],
+        &[10, 0],
+    );
+    judge(words, variables, nodes, 0, 1, &[1], &[-4], &[-4], &[-4]);
+    judge(
+        words,
+        variables,
+        nodes,
+        0,
+        2,
+        &[0, 1],
+        &[5, 5],
+        &[9, 9],
+        &[10, 10],
+    );
+}
+
+// Asks the circuit of a text with measurements.
+fn ask_measured(text: &[u8]) {
+    let mut words = [0u32; NODE_WORDS * (MAX_NODES as usize)];
+    match text_reader::reader::read(text, &mut words) {
+        Reading::Refused(fault, place) => print_fault(fault, place),
+        Reading::Circuit(variables, nodes) => measured_questions(&words, variables, nodes),
     }
     print(b"\n", 1);
 }
@@ -105,14 +213,11 @@ fn smallest_circuits() {
     ask(b"(circuit 1)\n(yes 0)\n(no 0)\n", 0, 0, 0);
 }
 
-// P9 to P12; 31 and 32 with an assignment and a term that name variable 4.
+// P9, with measurements too, to P12; 31 and 32 with an assignment and a term that name variable 4.
 fn larger_circuits() {
-    ask(
-        b"(circuit 3)\n(pick 0 (no 1) (pick 1 (yes 2) (true)))\n",
-        5,
-        4,
-        2,
-    );
+    let text = b"(circuit 3)\n(pick 0 (no 1) (pick 1 (yes 2) (true)))\n";
+    ask(text, 5, 4, 2);
+    ask_measured(text);
     ask(b"(circuit 4)\n(pick 3 (true) (yes 2))\n", 12, 4, 8);
     ask(
         b"(circuit 4)\n(pick 0 (pick 3 (true) (yes 2)) (no 2))\n",

@@ -6,10 +6,13 @@ use lib.Dec.{eqb}
 use lib.ListN.{replicate}
 use Rattle.table.specs.Outcome.{Outcome, answered, refused}
 use Rattle.terms.specs.Lists.{all}
+use Rattle.terms.specs.Term.{term}
 use Rattle.terms.specs.declared.Term.{Term}
+use Rattle.measurements.specs.Measurement.{measurements, Measurements}
 use Rattle.circuits.specs.Check.{check}
 use Rattle.circuits.specs.Function.{signedFunction}
 use Rattle.queries.specs.Queries.{modelCount}
+use Rattle.partial.specs.Partial.{partialEvaluation}
 use Rattle.listing.specs.Listing.{nodePrimes, lent, listTable}
 
 -- prime implicants in order, and whether some capacities suffice
@@ -17,11 +20,17 @@ pub record Primes : Type 0 where
   pub terms : List Term
   pub capacities : List (ℕ × Bool)
 
+-- a partial assignment, and its judgement: the verdict with both numbers of completions, or a refusal
+pub record Question : Type 0 where
+  pub given : Term
+  pub measured : Measurements
+  pub judgement : Outcome (ℕ × (ℕ × ℕ))
+
 pub data Known : Type 0 where
   -- it is refused, with this number and node
   fault : ℕ → ℕ → Known
-  -- its model count, its prime implicants, and those of its negation
-  accepts : ℕ → Primes → Primes → Known
+  -- its model count, its prime implicants, those of its negation, and judgements
+  accepts : ℕ → Primes → Primes → List Question → Known
 
 abbrev sameTerms : List Term → List Term → Bool
 sameTerms [] [] = true
@@ -41,6 +50,14 @@ abbrev isCount : ℕ → Outcome ℕ → Bool
 isCount m (answered v) = eqb v m
 isCount m (refused k i) = false
 
+abbrev sameJudgement : Outcome (ℕ × (ℕ × ℕ)) → Outcome (ℕ × (ℕ × ℕ)) → Bool
+sameJudgement (refused k i) o = refusedAs k i o
+sameJudgement (answered v) (refused k i) = false
+sameJudgement (answered v) (answered u) = eqb (v .0) (u .0) && eqb (v .1 .0) (u .1 .0) && eqb (v .1 .1) (u .1 .1)
+
+abbrev judgedAs : ℕ → ℕ → List ℕ → Question → Bool
+judgedAs N n w q = sameJudgement (q .judgement) (partialEvaluation N n w (q .given) (q .measured))
+
 -- a listing with this capacity, into buffers of just the needed length, is done, or refused with 42
 abbrev fits : Bool → ℕ → ℕ → List ℕ → ℕ → Bool → Bool
 fits c N n w R enough =
@@ -53,8 +70,9 @@ abbrev listsAs : Bool → ℕ → ℕ → List ℕ → Primes → Bool
 listsAs c N n w ps =
     sameTerms (nodePrimes N (signedFunction c w) (pred n)) (ps .terms) && all (λ r. fits c N n w (r .0) (r .1)) (ps .capacities)
 
--- of a table of n nodes over N variables; the circuit is the last node
+-- of a table of n nodes over N variables; the circuit is the last node. 21 to 25 come before 32 and 53
 abbrev pub holds : ℕ → ℕ → List ℕ → Known → Bool
-holds N n w (fault k i) = refusedAs k i (check N n w)
-holds N n w (accepts m ps qs) =
-    isAccepted (check N n w) && isCount m (modelCount N n w) && listsAs true N n w ps && listsAs false N n w qs
+holds N n w (fault k i) =
+    refusedAs k i (check N n w) && refusedAs k i (partialEvaluation N n w (term 1 1) (measurements (N ∷ []) [] [] []))
+holds N n w (accepts m ps qs js) =
+    isAccepted (check N n w) && isCount m (modelCount N n w) && listsAs true N n w ps && listsAs false N n w qs && all (judgedAs N n w) js

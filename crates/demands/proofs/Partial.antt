@@ -21,13 +21,13 @@ use Rattle.terms.proofs.Completions.{no-true-e, no-true-i}
 use Rattle.terms.proofs.Terms.{isTerm-i}
 use Rattle.measurements.specs.Measurement.{entries, wrong, measuredTerm, checkMeasurements, Measurements}
 use Rattle.measurements.proofs.Literals.{measured-isTerm, measured-kept, measured-added, measured-only}
-use Rattle.measurements.proofs.Right.{right-e, Right}
+use Rattle.measurements.proofs.Right.{right-e, few-right, Right}
 use Rattle.circuits.specs.Check.{check}
 use Rattle.checks.specs.Arguments.{checkTerm}
 use Rattle.checks.proofs.Arguments.{term-i}
 use Rattle.queries.specs.Queries.{circuit}
 use Rattle.partial.specs.Partial.{judgement, partialEvaluation}
-use Rattle.demands.specs.Demands.{At, Answers, tableRefusals, Adds, Judged, JudgedWith}
+use Rattle.demands.specs.Demands.{At, Answers, tableRefusals, WrongAt, Adds, Judged, JudgedWith}
 use Rattle.demands.proofs.Answers.{answers-after, tested-answers}
 
 module _ (N : ℕ) (t : Term) (m : Measurements) where
@@ -38,21 +38,26 @@ module _ (N : ℕ) (t : Term) (m : Measurements) where
   first = least (entries m) bad
 
   -- 53 stands at the lowest wrong measurement
-  test-answers : Answers ((53, Lowest bad) ∷ []) (checkMeasurements N t m)
+  at-first : first < entries m → WrongAt N t m first
+  at-first l =
+      let lowest : Lowest bad first = least-lowest (entries m) bad l in
+      (lowest, few-right N (variables t) m first (λ i k. right-e N (variables t) m i (lowest .1 i k)))
+
+  test-answers : Answers ((53, WrongAt N t m) ∷ []) (checkMeasurements N t m)
   unfolding checkMeasurements
   test-answers = by (ltb first (entries m)) refl
     where
-      by : (b : Bool) → ltb first (entries m) ≡ b → Answers ((53, Lowest bad) ∷ []) (cond b (refused 53 first) accepted)
-      by true e = inl (refl, least-lowest (entries m) bad (ltb→lt first (entries m) (along (sym e) tt)))
+      by : (b : Bool) → ltb first (entries m) ≡ b → Answers ((53, WrongAt N t m) ∷ []) (cond b (refused 53 first) accepted)
+      by true e = inl (refl, at-first (ltb→lt first (entries m) (along (sym e) tt)))
       by false e = tt
 
   pub partial-answers : (n : ℕ) (w : List ℕ)
-      → Answers (tableRefusals n ++ ((32, At 0) ∷ (53, Lowest bad) ∷ [])) (partialEvaluation N n w t m)
+      → Answers (tableRefusals n ++ ((32, At 0) ∷ (53, WrongAt N t m) ∷ [])) (partialEvaluation N n w t m)
   unfolding partialEvaluation checkTerm
   partial-answers n w =
       let last : Outcome (ℕ × (ℕ × ℕ)) = answered (judgement N (circuit n w) (measuredTerm t m (entries m))) in
-      tested-answers N n w (isTerm N t) 32 ((53, Lowest bad) ∷ []) (after (checkMeasurements N t m) last)
-      (answers-after ((53, Lowest bad) ∷ []) [] (checkMeasurements N t m) last test-answers tt)
+      tested-answers N n w (isTerm N t) 32 ((53, WrongAt N t m) ∷ []) (after (checkMeasurements N t m) last)
+      (answers-after ((53, WrongAt N t m) ∷ []) [] (checkMeasurements N t m) last test-answers tt)
 
   module _ (h : IsTerm N t) (none : (i : ℕ) → i < entries m → T (not (bad i))) where
     passed : checkMeasurements N t m ≡ accepted

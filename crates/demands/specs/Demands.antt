@@ -77,6 +77,10 @@ tableRefusals n = (21, At 0) ∷ (22, Below n) ∷ (23, Below n) ∷ (24, Below 
 abbrev pub writeRefusals : ℕ → ℕ → Refusals
 writeRefusals n l = (21, At 0) ∷ (22, Below n) ∷ (16, Above l) ∷ []
 
+-- of measurements beside the term t: the lowest wrong one, which is among the first N + 1, however long the lists are
+abbrev pub WrongAt : ℕ → Term → Measurements → ℕ → Type 0
+WrongAt N t m i = Lowest (wrong N (variables t) m) i × (i ≤ N)
+
 -- every operation answers and leaves the same for the table w′ as for w
 pub record SameAnswers (N n : ℕ) (w w′ : List ℕ) : Type 0 where
   pub check : check N n w′ ≡ check N n w
@@ -120,7 +124,7 @@ pub record AnyInput : Type 0 where
       → Answers (tableRefusals n ++ ((31, At 0) ∷ (33, At 0) ∷ [])) (reduction N n w s)
   -- the judgement of the term t with the measurements m: 53 comes with the lowest wrong one
   pub partial : (N n : ℕ) (w : List ℕ) (t : Term) (m : Measurements)
-      → Answers (tableRefusals n ++ ((32, At 0) ∷ (53, Lowest (wrong N (variables t) m)) ∷ [])) (partialEvaluation N n w t m)
+      → Answers (tableRefusals n ++ ((32, At 0) ∷ (53, WrongAt N t m) ∷ [])) (partialEvaluation N n w t m)
   -- listing with the capacity R into the buffers b: the nodes' functions where c is true, their negations where it is false
   pub list : (c : Bool) (N n : ℕ) (w : List ℕ) (R : ℕ) (b : Lent)
       → Answers (tableRefusals n ++ ((41, At 0) ∷ (42, At 0) ∷ [])) (listTable c N n w R b .answer)

@@ -1,22 +1,25 @@
 -- Measurements of which none is wrong: the term with their literals.
-use Prim.Native.Nat.{ℕ, _≤_, _<_}
+use Prim.Native.Nat.{ℕ, zero, suc, _≤_, _<_}
 use mathlib.Core.Path.{_≡_, refl, sym, ap, subst, _∙_}
 use mathlib.Core.Bool.{Bool, true, false, _||_, not, cond}
+use native.Mathlib.Nat.{le-refl}
 use native.Mathlib.Omega.{arith}
 use lib.Dec.{T, leb, ltb, eqb, nleb→lt}
 use lib.Signed.{ltZ}
 use borrow.Author.Tests.{ltb-false, lt-ltb, le-ltb}
-use Rattle.masks.specs.Mask.{width, bit}
-use Rattle.masks.specs.Numbers.{some}
-use Rattle.masks.proofs.Numbers.{least-none}
-use Rattle.masks.proofs.Tests.{not-or}
+use Rattle.masks.specs.Mask.{width, bit, put}
+use Rattle.masks.specs.Numbers.{some, count}
+use Rattle.masks.proofs.Masks.{put-same, bit-put}
+use Rattle.masks.proofs.Numbers.{count-less, count-not, least-none}
+use Rattle.masks.proofs.Tests.{not-or, along}
 use Rattle.table.specs.Outcome.{accepted, Outcome, answered, refused, after}
 use Rattle.table.proofs.Outcomes.{after-answered, after-refused}
 use Rattle.terms.specs.Term.{variables}
 use Rattle.terms.specs.declared.Term.{Term}
 use Rattle.measurements.specs.Measurement.{complete, entries, variableAt, lowAt, highAt, wrong, measuredTerm, Measurements}
 use Rattle.measurements.specs.Measurement.{checkMeasurements, measurement}
-use Rattle.measurements.specs.Walk.{firstWrong, Usable}
+use Rattle.measurements.specs.Walk.{firstWrong, seen, Usable}
+use Rattle.measurements.proofs.Walk.{seen-bit}
 
 -- what it says of a measurement that it is not wrong
 pub record Right (N v : ℕ) (m : Measurements) (i : ℕ) : Type 0 where
@@ -25,6 +28,17 @@ pub record Right (N v : ℕ) (m : Measurements) (i : ℕ) : Type 0 where
   pub below : variableAt m i < N
   pub unknown : T (not (bit v (variableAt m i)))
   pub once : T (not (some i (λ j. eqb (variableAt m i) (variableAt m j))))
+
+neither : (a b : Bool) → T (not a) → T (not b) → T (not (a || b))
+neither false b h k = k
+neither true b h k = h
+
+put-keeps : (s x i : ℕ) → T (bit s i) → T (bit (put s x true) i)
+put-keeps s x i h = along (sym (bit-put s x i true)) (by (eqb i x))
+  where
+    by : (e : Bool) → T (cond e true (bit s i))
+    by true = tt
+    by false = h
 
 module _ (N v : ℕ) (m : Measurements) where
   pub right-e : (i : ℕ) → T (not (wrong N v m i)) → Right N v m i
@@ -42,6 +56,26 @@ module _ (N v : ℕ) (m : Measurements) where
   -- none is wrong
   pub all-right : entries m ≤ firstWrong N v m → (i : ℕ) → i < entries m → Right N v m i
   all-right h i l = right-e i (least-none (entries m) (wrong N v m) h i l)
+
+  -- right ones measure different variables below N, so that there are no more than N
+  seen-grows : (k : ℕ) → ((i : ℕ) → i < k → Right N v m i) → k ≤ count N (bit (seen v m k))
+  unfolding seen
+  seen-grows zero right = omega arith
+  seen-grows (suc k) right =
+      let s : ℕ = seen v m k in
+      let x : ℕ = variableAt m k in
+      let r : Right N v m k = right k (le-refl (suc k)) in
+      let fresh : T (not (bit s x)) =
+      along (ap not (sym (seen-bit m v k x))) (neither (bit v x) (some k (λ j. eqb x (variableAt m j))) (r .unknown) (r .once)) in
+      let more : count N (bit s) < count N (bit (put s x true)) =
+      count-less N (bit s) (bit (put s x true)) (λ i l h. put-keeps s x i h) x (r .below) fresh (along (sym (put-same s x true)) tt) in
+      let before : k ≤ count N (bit s) = seen-grows k (λ i l. right i (omega arith)) in
+      omega arith
+
+  pub few-right : (k : ℕ) → ((i : ℕ) → i < k → Right N v m i) → k ≤ N
+  few-right k right =
+      let grown : k ≤ count N (bit (seen v m k)) = seen-grows k right in
+      omega (arith, count-not N (bit (seen v m k)))
 
   pub usable : N ≤ width → entries m ≤ firstWrong N v m → Usable (entries m) m
   usable wide h i l =

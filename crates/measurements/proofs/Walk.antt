@@ -65,7 +65,7 @@ module _ (m : Measurements) where
     unfolding seen
     seen-next k e d = d ∙ ap (λ (z : ℕ). put z (variableAt m k) true) e ∙ ap (seen v m) (sym (add-one k))
 
-    seen-bit : (k x : ℕ) → bit (seen v m k) x ≡ (bit v x || some k (λ j. eqb x (variableAt m j)))
+    pub seen-bit : (k x : ℕ) → bit (seen v m k) x ≡ (bit v x || some k (λ j. eqb x (variableAt m j)))
     unfolding seen some
     seen-bit zero x = sym (or-false (bit v x))
     seen-bit (suc k) x =

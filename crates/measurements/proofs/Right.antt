@@ -17,7 +17,7 @@ use Rattle.table.proofs.Outcomes.{after-answered, after-refused}
 use Rattle.terms.specs.Term.{variables}
 use Rattle.terms.specs.declared.Term.{Term}
 use Rattle.measurements.specs.Measurement.{complete, entries, variableAt, lowAt, highAt, wrong, measuredTerm, Measurements}
-use Rattle.measurements.specs.Measurement.{checkMeasurements, measurement}
+use Rattle.measurements.specs.Measurement.{checkMeasurements, withMeasurements}
 use Rattle.measurements.specs.Walk.{firstWrong, seen, Usable}
 use Rattle.measurements.proofs.Walk.{seen-bit}
 
@@ -92,27 +92,27 @@ module _ (N : ℕ) (t : Term) (m : Measurements) where
   abbrev known : Outcome Term
   known = answered (measuredTerm t m (entries m))
 
-  by-first : (b : Bool) → ltb first (entries m) ≡ b → cond b (refused 53 first) known ≡ measurement N t m
-  unfolding measurement checkMeasurements
+  by-first : (b : Bool) → ltb first (entries m) ≡ b → cond b (refused 53 first) known ≡ withMeasurements N t m
+  unfolding withMeasurements checkMeasurements
   by-first true e = sym (ap (λ (b : Bool). after (cond b (refused 53 first) accepted) known) e)
   by-first false e = sym (ap (λ (b : Bool). after (cond b (refused 53 first) accepted) known) e)
 
-  pub some-wrong : {i : ℕ} → i ≡ firstWrong N (variables t) m → i < entries m → refused 53 i ≡ measurement N t m
+  pub some-wrong : {i : ℕ} → i ≡ firstWrong N (variables t) m → i < entries m → refused 53 i ≡ withMeasurements N t m
   some-wrong {i} e l =
       ap (refused 53) e ∙ by-first true (lt-ltb first (entries m) (subst (λ (z : ℕ). z < entries m) e l))
 
   pub none-wrong : {u : Term} → entries m ≤ firstWrong N (variables t) m → u ≡ measuredTerm t m (entries m)
-      → answered u ≡ measurement N t m
+      → answered u ≡ withMeasurements N t m
   none-wrong l e = ap answered e ∙ by-first false (le-ltb first (entries m) l)
 
   -- what the answer says of the test
-  pub known-passed : (u : Term) → measurement N t m ≡ answered u → (checkMeasurements N t m ≡ accepted) × (measuredTerm t m (entries m) ≡ u)
-  unfolding measurement
+  pub known-passed : (u : Term) → withMeasurements N t m ≡ answered u → (checkMeasurements N t m ≡ accepted) × (measuredTerm t m (entries m) ≡ u)
+  unfolding withMeasurements
   known-passed u e = after-answered (checkMeasurements N t m) (measuredTerm t m (entries m)) u e
 
-  pub wrong-stands : {A : Type 0} (o : Outcome A) (k i : ℕ) → measurement N t m ≡ refused k i
+  pub wrong-stands : {A : Type 0} (o : Outcome A) (k i : ℕ) → withMeasurements N t m ≡ refused k i
       → refused k i ≡ after (checkMeasurements N t m) o
-  unfolding measurement
+  unfolding withMeasurements
   wrong-stands o k i e = after-refused (checkMeasurements N t m) (measuredTerm t m (entries m)) o k i e
 
   -- where the measurements pass, none is wrong

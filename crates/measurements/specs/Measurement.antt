@@ -72,5 +72,5 @@ unfoldable pub checkMeasurements : ℕ → Term → Measurements → Outcome (Un
 checkMeasurements N t m = firstFault (entries m) ((53, wrong N (variables t) m) ∷ [])
 
 -- the term with the literals of all measurements, after 53
-unfoldable pub measurement : ℕ → Term → Measurements → Outcome Term
-measurement N t m = after (checkMeasurements N t m) (answered (measuredTerm t m (entries m)))
+unfoldable pub withMeasurements : ℕ → Term → Measurements → Outcome Term
+withMeasurements N t m = after (checkMeasurements N t m) (answered (measuredTerm t m (entries m)))

@@ -6,7 +6,7 @@ ghost use lib.Dec.{leb};
 ghost use lib.Signed.{ltZ};
 ghost use Rattle.masks.specs.Mask.{bit};
 ghost use Rattle.measurements.specs.Answers.{measuredOutcome};
-ghost use Rattle.measurements.specs.Measurement.{measurements, withMeasured, measuredTerm, measurement};
+ghost use Rattle.measurements.specs.Measurement.{measurements, withMeasured, measuredTerm, withMeasurements};
 ghost use Rattle.measurements.specs.Walk.{firstWrong, Usable};
 use terms::Term;
 
@@ -141,7 +141,7 @@ pub fn measure(
     thresholds: &[i32],
 ) -> Measured
     requires { ⌜ variables < 64 ⌝ }
-    ensures { λ r. ⌜ measuredOutcome r ≡ measurement variables t
+    ensures { λ r. ⌜ measuredOutcome r ≡ withMeasurements variables t
         (measurements (now (measured .entry)) (now (lows .entry)) (now (highs .entry)) (now (thresholds .entry))) ⌝ }
 {
     let n = longest(measured.len(), lows.len(), highs.len(), thresholds.len());

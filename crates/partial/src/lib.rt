@@ -63,7 +63,7 @@ fn verdict_of(allowed: u64, forbidden: u64) -> Verdict
     Verdict::Open
 }
 
-// The number of completions: two for each variable without a literal.
+// The number of completions: doubled by each variable without a literal.
 fn completions(variables: u32, t: Term) -> u64
     requires { ⌜ (variables ≤ 40) × (literals t ≤ variables) ⌝ }
     ensures { λ r. ⌜ r ≡ 2 ^ (variables - literals t) ⌝ }

@@ -1,27 +1,25 @@
 -- Partial assignments: where they may be refused, and what the judgement says.
-use Prim.Native.Nat.{ℕ, _<_, _≤_}
-use mathlib.Core.Path.{_≡_, refl, sym, ap, subst, _∙_}
+use Prim.Native.Nat.{ℕ, _<_}
+use mathlib.Core.Path.{_≡_, refl, sym, subst, _∙_}
 use mathlib.Core.Bool.{Bool, true, false, not, cond}
-use mathlib.Core.Logic.{inl, ⊎-elim}
+use mathlib.Core.Logic.{inl}
 use mathlib.Core.List.{List, [], _∷_, _++_}
 use native.Mathlib.Nat.{le-refl}
-use lib.Dec.{T, T-not, ltb, ltb→lt}
-use borrow.Author.Tests.{le-ltb}
+use lib.Dec.{T, ltb, ltb→lt}
 use Rattle.masks.specs.Numbers.{least, Lowest}
 use Rattle.masks.proofs.Numbers.{least-lowest}
 use Rattle.masks.proofs.Tests.{along}
 use Rattle.table.specs.Outcome.{accepted, after, Outcome, answered, refused}
-use Rattle.table.proofs.NodePlaces.{lt-or-le}
 use Rattle.table.proofs.Outcomes.{after-accepted}
-use Rattle.terms.specs.Completions.{modelsUnder, unknowns, verdict}
+use Rattle.terms.specs.Completions.{modelsUnder, status}
 use Rattle.terms.specs.Term.{variables, isTerm, IsTerm}
 use Rattle.terms.specs.declared.Term.{Term}
-use Rattle.terms.proofs.Completions.{completions-sum, allowed-e, allowed-i, forbidden-e, forbidden-i, verdict-le, no-false-e, no-false-i}
+use Rattle.terms.proofs.Completions.{completions-sum, satisfied-e, satisfied-i, falsified-e, falsified-i, status-le, no-false-e, no-false-i}
 use Rattle.terms.proofs.Completions.{no-true-e, no-true-i}
 use Rattle.terms.proofs.Terms.{isTerm-i}
 use Rattle.measurements.specs.Measurement.{entries, wrong, measuredTerm, checkMeasurements, Measurements}
 use Rattle.measurements.proofs.Literals.{measured-isTerm, measured-kept, measured-added, measured-only}
-use Rattle.measurements.proofs.Right.{right-e, few-right, Right}
+use Rattle.measurements.proofs.Right.{right-e, few-right, right-passed, Right}
 use Rattle.circuits.specs.Check.{check}
 use Rattle.checks.specs.Arguments.{checkTerm}
 use Rattle.checks.proofs.Arguments.{term-i}
@@ -61,11 +59,7 @@ module _ (N : ℕ) (t : Term) (m : Measurements) where
 
   module _ (h : IsTerm N t) (none : (i : ℕ) → i < entries m → T (not (bad i))) where
     passed : checkMeasurements N t m ≡ accepted
-    unfolding checkMeasurements
-    passed =
-        ⊎-elim (λ (l : first < entries m). absurd (T-not (bad first) (none first l) (least-lowest (entries m) bad l .0)))
-        (λ (l : entries m ≤ first). ap (λ (b : Bool). cond b (refused 53 first) accepted) (le-ltb first (entries m) l))
-        (lt-or-le first (entries m))
+    passed = right-passed N t m none
 
     right : (i : ℕ) → i < entries m → Right N (variables t) m i
     right i l = right-e N (variables t) m i (none i l)
@@ -85,13 +79,13 @@ module _ (N : ℕ) (t : Term) (m : Measurements) where
           only = λ b x k. measured-only t m N (entries m) right b x (entries m) (le-refl (entries m)) k;
         }
 
-    judged : (f : ℕ → Bool) → Judged N f known (verdict N f known) (modelsUnder N f known) (modelsUnder N (λ s. not (f s)) known)
-    unfolding modelsUnder unknowns
+    judged : (f : ℕ → Bool) → Judged N f known (status N f known) (modelsUnder N f known) (modelsUnder N (λ s. not (f s)) known)
+    unfolding modelsUnder
     judged f =
         record {
-          allowed = (allowed-e N known known-isTerm f, allowed-i N known known-isTerm f);
-          forbidden = (forbidden-e N known known-isTerm f, forbidden-i N known known-isTerm f);
-          range = verdict-le N known known-isTerm f;
+          satisfied = (satisfied-e N known known-isTerm f, satisfied-i N known known-isTerm f);
+          falsified = (falsified-e N known known-isTerm f, falsified-i N known known-isTerm f);
+          range = status-le N known known-isTerm f;
           no-false = (no-false-e N known known-isTerm f, no-false-i N known known-isTerm f);
           no-true = (no-true-e N known known-isTerm f, no-true-i N known known-isTerm f);
           trues = refl;

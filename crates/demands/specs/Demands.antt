@@ -20,10 +20,11 @@ use Rattle.text.specs.Meaning.{Bytes, ReadsAs}
 use Rattle.text.specs.Read.{answers, readText}
 use Rattle.text.specs.Syntax.{print, Tree}
 use Rattle.text.specs.Write.{tableText, writeTable}
+use Rattle.terms.specs.Completions.{unknowns}
 use Rattle.terms.specs.Lists.{Rising}
 use Rattle.terms.specs.Order.{before}
 use Rattle.terms.specs.Prime.{Implicant, Prime}
-use Rattle.terms.specs.Term.{has, mentions, variables, agrees, Agrees, IsTerm, termsOf}
+use Rattle.terms.specs.Term.{has, variables, agrees, Agrees, IsTerm, termsOf}
 use Rattle.terms.specs.declared.Term.{Term}
 use Rattle.measurements.specs.Measurement.{entries, variableAt, lowAt, highAt, thresholdAt, says, wrong, Measurements}
 use Rattle.circuits.specs.Check.{check}
@@ -173,18 +174,18 @@ pub record Adds (N : ℕ) (t : Term) (m : Measurements) (u : Term) : Type 0 wher
   pub only : (b : Bool) (x : ℕ) → T (has u b x)
       → T (has t b x) ⊎ ((i : ℕ) × (i < entries m) × (variableAt m i ≡ x) × T (says (lowAt m i) (highAt m i) (thresholdAt m i) b))
 
--- the verdict v on the partial assignment u, and how many of its completions make f true, a, and false, b
+-- the status v of the partial assignment u, and how many of its completions make f true, a, and false, b
 pub record Judged (N : ℕ) (f : ℕ → Bool) (u : Term) (v a b : ℕ) : Type 0 where
   -- 2 exactly if every completion makes f true, 0 exactly if none does, and 1 otherwise
-  pub allowed : (v ≡ 2 → Implicant N f u) × (Implicant N f u → v ≡ 2)
-  pub forbidden : (v ≡ 0 → Implicant N (λ s. not (f s)) u) × (Implicant N (λ s. not (f s)) u → v ≡ 0)
+  pub satisfied : (v ≡ 2 → Implicant N f u) × (Implicant N f u → v ≡ 2)
+  pub falsified : (v ≡ 0 → Implicant N (λ s. not (f s)) u) × (Implicant N (λ s. not (f s)) u → v ≡ 0)
   pub range : v ≤ 2
   -- so exactly if the other number is 0; together they are 2 to the power of the variables without a literal
   pub no-false : (v ≡ 2 → b ≡ 0) × (b ≡ 0 → v ≡ 2)
   pub no-true : (v ≡ 0 → a ≡ 0) × (a ≡ 0 → v ≡ 0)
   pub trues : a ≡ count (2 ^ N) (λ s. agrees N u s && f s)
   pub falses : b ≡ count (2 ^ N) (λ s. agrees N u s && not (f s))
-  pub sum : a + b ≡ 2 ^ count N (λ x. not (mentions u x))
+  pub sum : a + b ≡ 2 ^ unknowns N u
 
 -- the answer is such a judgement of t with the measurements m
 abbrev pub JudgedWith : ℕ → (ℕ → Bool) → Term → Measurements → Outcome (ℕ × (ℕ × ℕ)) → Type 0

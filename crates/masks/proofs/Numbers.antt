@@ -143,14 +143,7 @@ every-count (suc n) p q = go (p n) (q n) (every-count n p q)
 
 -- those that pass and those that do not are all
 pub count-not : (n : ℕ) (p : ℕ → Bool) → count n p + count n (λ i. not (p i)) ≡ n
-unfolding count
-count-not zero p = refl
-count-not (suc n) p = go (p n) (count-not n p)
-  where
-    go : (b : Bool) → count n p + count n (λ i. not (p i)) ≡ n
-        → (count n p + digit b) + (count n (λ i. not (p i)) + digit (not b)) ≡ suc n
-    go true e = omega arith
-    go false e = omega arith
+count-not n p = count-split n (λ i. true) p ∙ count-all n
 
 -- ---- the least number that passes
 pub least-ext : (n : ℕ) (p q : ℕ → Bool) → ((i : ℕ) → i < n → p i ≡ q i) → least n p ≡ least n q

@@ -2,17 +2,19 @@
 use Prim.Native.Nat.{ℕ, zero, suc, _≤_, _<_}
 use mathlib.Core.Path.{_≡_, refl, sym, ap, subst, _∙_}
 use mathlib.Core.Bool.{Bool, true, false, _||_, not, cond}
+use mathlib.Core.Logic.{⊎-elim}
 use native.Mathlib.Nat.{le-refl}
 use native.Mathlib.Omega.{arith}
-use lib.Dec.{T, leb, ltb, eqb, nleb→lt}
+use lib.Dec.{T, T-not, leb, ltb, eqb, nleb→lt}
 use lib.Signed.{ltZ}
 use borrow.Author.Tests.{ltb-false, lt-ltb, le-ltb}
 use Rattle.masks.specs.Mask.{width, bit, put}
 use Rattle.masks.specs.Numbers.{some, count}
 use Rattle.masks.proofs.Masks.{put-same, bit-put}
-use Rattle.masks.proofs.Numbers.{count-less, count-not, least-none}
+use Rattle.masks.proofs.Numbers.{count-less, count-not, least-none, least-lowest}
 use Rattle.masks.proofs.Tests.{not-or, along}
 use Rattle.table.specs.Outcome.{accepted, Outcome, answered, refused, after}
+use Rattle.table.proofs.NodePlaces.{lt-or-le}
 use Rattle.table.proofs.Outcomes.{after-answered, after-refused}
 use Rattle.terms.specs.Term.{variables}
 use Rattle.terms.specs.declared.Term.{Term}
@@ -106,7 +108,8 @@ module _ (N : ℕ) (t : Term) (m : Measurements) where
   none-wrong l e = ap answered e ∙ by-first false (le-ltb first (entries m) l)
 
   -- what the answer says of the test
-  pub known-passed : (u : Term) → withMeasurements N t m ≡ answered u → (checkMeasurements N t m ≡ accepted) × (measuredTerm t m (entries m) ≡ u)
+  pub known-passed : (u : Term) → withMeasurements N t m ≡ answered u
+      → (checkMeasurements N t m ≡ accepted) × (measuredTerm t m (entries m) ≡ u)
   unfolding withMeasurements
   known-passed u e = after-answered (checkMeasurements N t m) (measuredTerm t m (entries m)) u e
 
@@ -123,3 +126,12 @@ module _ (N : ℕ) (t : Term) (m : Measurements) where
       none : (b : Bool) → ltb first (entries m) ≡ b → cond b (refused 53 first) accepted ≡ accepted → entries m ≤ first
       none true d h = let z : _≡_ {A = ℕ} 0 1 = cc in absurd (omega arith)
       none false d h = ltb-false first (entries m) d
+
+  pub right-passed : ((i : ℕ) → i < entries m → T (not (wrong N (variables t) m i))) → checkMeasurements N t m ≡ accepted
+  unfolding checkMeasurements
+  right-passed h =
+      ⊎-elim
+      (λ (l : first < entries m).
+      absurd (T-not (wrong N (variables t) m first) (h first l) (least-lowest (entries m) (wrong N (variables t) m) l .0)))
+      (λ (l : entries m ≤ first). ap (λ (b : Bool). cond b (refused 53 first) accepted) (le-ltb first (entries m) l))
+      (lt-or-le first (entries m))

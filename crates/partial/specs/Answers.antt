@@ -3,16 +3,17 @@ use Prim.Native.Nat.{ℕ}
 use Rattle.table.specs.Outcome.{Outcome, answered, refused, refusedBy}
 use Rattle.partial.specs.declared.Judgement.{Judgement}
 use Rattle.partial.specs.declared.PartialEvaluation.{PartialEvaluation}
-use Rattle.partial.specs.declared.Verdict.{Verdict}
+use Rattle.partial.specs.declared.Status.{Status}
 
-abbrev pub verdictNumber : Verdict → ℕ
-verdictNumber Verdict.Forbidden = 0
-verdictNumber Verdict.Open = 1
-verdictNumber Verdict.Allowed = 2
+-- "forbidden", "open", "allowed"
+abbrev pub statusNumber : Status → ℕ
+statusNumber Status.Falsified = 0
+statusNumber Status.Undetermined = 1
+statusNumber Status.Satisfied = 2
 
--- the verdict and the two numbers of completions
+-- the status and the two numbers of completions
 abbrev pub judged : Judgement → ℕ × (ℕ × ℕ)
-judged j = (verdictNumber (j .verdict), (j .allowed, j .forbidden))
+judged j = (statusNumber (j .status), (j .models, j .countermodels))
 
 -- 53 comes with the measurement
 abbrev pub partialOutcome : PartialEvaluation → Outcome (ℕ × (ℕ × ℕ))

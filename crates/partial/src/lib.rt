@@ -1,46 +1,46 @@
 // The question of a partial assignment to a circuit: a term says what is known, and measurements add to it.
 ghost use mathlib.Core.Path.{_≡_};
-ghost use mathlib.Core.Bool.{cond};
 ghost use Prim.Native.Nat.{_-_, _^_, _≤_};
 ghost use lib.Dec.{T, eqb};
 ghost use Rattle.table.specs.Outcome.{accepted};
+ghost use Rattle.terms.specs.Completions.{statusBy};
 ghost use Rattle.terms.specs.Term.{isTerm, literals};
 ghost use Rattle.measurements.specs.Measurement.{measurements};
 ghost use Rattle.circuits.specs.Check.{check};
 ghost use Rattle.queries.specs.Queries.{circuit};
-ghost use Rattle.partial.specs.Answers.{verdictNumber, judged, partialOutcome};
+ghost use Rattle.partial.specs.Answers.{statusNumber, judged, partialOutcome};
 ghost use Rattle.partial.specs.Partial.{judgement, partialEvaluation};
 use measurements::Measured;
 use table::Checked;
 use table::Refusal;
 use terms::Term;
 
-// What the completions say together; specs/Answers.antt has the scope's numbers.
-pub enum Verdict {
-    // none satisfies the circuit
-    Forbidden,
-    // some do, and some do not
-    Open,
-    // every one does
-    Allowed,
+// What the completions say together, the scope's verdict on a half-known stow; specs/Answers.antt has its numbers.
+pub enum Status {
+    // no completion satisfies the circuit: forbidden
+    Falsified,
+    // some do, and some do not: open
+    Undetermined,
+    // every one does: allowed
+    Satisfied,
 }
 
-// The scope's number of a verdict.
-pub fn verdict_number(v: Verdict) -> u32
-    ensures { λ r. ⌜ r ≡ verdictNumber v ⌝ }
+// The scope's number of a status.
+pub fn status_number(s: Status) -> u32
+    ensures { λ r. ⌜ r ≡ statusNumber s ⌝ }
 {
-    match v {
-        Verdict::Forbidden => 0,
-        Verdict::Open => 1,
-        Verdict::Allowed => 2,
+    match s {
+        Status::Falsified => 0,
+        Status::Undetermined => 1,
+        Status::Satisfied => 2,
     }
 }
 
-// The verdict, and how many completions satisfy the circuit and how many do not.
+// The status, and how many completions satisfy the circuit and how many do not.
 pub struct Judgement {
-    pub verdict: Verdict,
-    pub allowed: u64,
-    pub forbidden: u64,
+    pub status: Status,
+    pub models: u64,
+    pub countermodels: u64,
 }
 
 // The answer: a measurement may be wrong, by its place in the lists.
@@ -50,17 +50,17 @@ pub enum PartialEvaluation {
     Refused(Refusal),
 }
 
-// The verdict by the two numbers.
-fn verdict_of(allowed: u64, forbidden: u64) -> Verdict
-    ensures { λ r. ⌜ verdictNumber r ≡ cond (eqb forbidden 0) 2 (cond (eqb allowed 0) 0 1) ⌝ }
+// The status by the two numbers.
+fn status_of(models: u64, countermodels: u64) -> Status
+    ensures { λ r. ⌜ statusNumber r ≡ statusBy (eqb countermodels 0) (eqb models 0) ⌝ }
 {
-    if forbidden == 0 {
-        return Verdict::Allowed;
+    if countermodels == 0 {
+        return Status::Satisfied;
     }
-    if allowed == 0 {
-        return Verdict::Forbidden;
+    if models == 0 {
+        return Status::Falsified;
     }
-    Verdict::Open
+    Status::Undetermined
 }
 
 // The number of completions: doubled by each variable without a literal.
@@ -76,12 +76,12 @@ pub fn judge(words: &[u32], variables: u32, n: usize, t: Term) -> Judgement
     requires { ⌜ (check variables n (now words) ≡ accepted) × T (isTerm variables t) ⌝ }
     ensures { λ r. ⌜ judged r ≡ judgement variables (circuit n (now (words .entry))) t ⌝ }
 {
-    let allowed = passes::models_under(words, variables, n, t);
-    let forbidden = completions(variables, t) - allowed;
+    let models = passes::models_under(words, variables, n, t);
+    let countermodels = completions(variables, t) - models;
     Judgement {
-        verdict: verdict_of(allowed, forbidden),
-        allowed,
-        forbidden,
+        status: status_of(models, countermodels),
+        models,
+        countermodels,
     }
 }
 

@@ -171,21 +171,21 @@ pub extern "C" fn quelbrift_reduce(
     }
 }
 
-// The answer to a partial assignment: the verdict and the numbers of its completions.
+// The answer to a partial assignment: its status and the numbers of its completions.
 fn partial_answer(r: PartialEvaluation) -> Answer
     ensures { λ a. ⌜ a ≡ answerOf triple (partialOutcome r) ⌝ }
 {
     match r {
         PartialEvaluation::Judged(j) => {
-            let v = j.verdict;
-            done_three(partial::verdict_number(v) as u64, j.allowed, j.forbidden)
+            let s = j.status;
+            done_three(partial::status_number(s) as u64, j.models, j.countermodels)
         }
         PartialEvaluation::Measurement(i) => refused(53, i as u64),
         PartialEvaluation::Refused(why) => refused_by(why),
     }
 }
 
-// The verdict for a term with the measurements' literals: 2 where every completion satisfies the circuit, 0 where none does, else 1;
+// The status of a term with the measurements' literals: 2 where every completion satisfies the circuit, 0 where none does, else 1;
 // and how many completions do and do not.
 #[no_mangle]
 pub extern "C" fn quelbrift_evaluate_partial(

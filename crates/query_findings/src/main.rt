@@ -6,7 +6,7 @@ use output::refusals::fault_line;
 use output::refusals::table_refusal_line;
 use partial::Judgement;
 use partial::PartialEvaluation;
-use partial::Verdict;
+use partial::Status;
 use queries::Counted;
 use queries::Evaluation;
 use queries::Reduction;
@@ -45,21 +45,21 @@ fn print_term(t: Term) {
     print(&line, n);
 }
 
-// The verdict's word.
-fn print_verdict(v: Verdict) {
-    match v {
-        Verdict::Forbidden => print(b"(forbidden ", 11),
-        Verdict::Open => print(b"(open ", 6),
-        Verdict::Allowed => print(b"(allowed ", 9),
+// The scope's word of a status.
+fn print_status(s: Status) {
+    match s {
+        Status::Falsified => print(b"(forbidden ", 11),
+        Status::Undetermined => print(b"(open ", 6),
+        Status::Satisfied => print(b"(allowed ", 9),
     }
 }
 
 fn print_judgement(j: Judgement) {
-    let v = j.verdict;
-    print_verdict(v);
-    io::print_decimal(STDOUT_FILENO, j.allowed);
+    let s = j.status;
+    print_status(s);
+    io::print_decimal(STDOUT_FILENO, j.models);
     print(b" ", 1);
-    io::print_decimal(STDOUT_FILENO, j.forbidden);
+    io::print_decimal(STDOUT_FILENO, j.countermodels);
     print(b")\n", 2);
 }
 

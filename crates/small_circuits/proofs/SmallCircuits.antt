@@ -7,7 +7,7 @@ use Rattle.table.specs.Node.{nodeAt}
 use Rattle.table.specs.Words.{childrenFit, malformed}
 use Rattle.text.specs.Read.{digitAt, digitsAt, numberAt, matchAt, rangedAt, tailAt, headAt, closeAt, endAt, restWith, formAt, linesAt}
 use Rattle.text.specs.Read.{headerAt, readText, wordAt}
-use Rattle.terms.specs.Completions.{modelsUnder, verdict}
+use Rattle.terms.specs.Completions.{modelsUnder, status}
 use Rattle.terms.specs.Lists.{all, sort}
 use Rattle.terms.specs.Order.{key, before}
 use Rattle.terms.specs.Prime.{implicant, prime, candidates, primes}
@@ -22,7 +22,7 @@ use Rattle.listing.specs.Listing.{exceeds, listTable}
 use Rattle.small_circuits.specs.Small.{smallHolds, judgements, small}
 
 pub small-holds : T (all smallHolds small)
-unfolding small judgements modelCount partialEvaluation judgement verdict modelsUnder checkTerm checkMeasurements wrong measuredTerm
+unfolding small judgements modelCount partialEvaluation judgement status modelsUnder checkTerm checkMeasurements wrong measuredTerm
     listTable exceeds check malformed parentless undecomposable unreduced support nodeAt wordsAt putWords
     childrenFit bottomUp ofNode function primes prime candidates implicant agrees isTerm key before sort
     bit put size disjoint every some count least below

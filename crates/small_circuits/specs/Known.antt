@@ -20,7 +20,7 @@ pub record Primes : Type 0 where
   pub terms : List Term
   pub capacities : List (ℕ × Bool)
 
--- a partial assignment, and its judgement: the verdict with both numbers of completions, or a refusal
+-- a partial assignment, and its judgement: the status with both numbers of completions, or a refusal
 pub record Question : Type 0 where
   pub given : Term
   pub measured : Measurements

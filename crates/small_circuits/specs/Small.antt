@@ -42,7 +42,7 @@ unmeasured = measurements [] [] [] []
 abbrev one : ℕ → ℤ → ℤ → ℤ → Measurements
 one x low high threshold = measurements (x ∷ []) (low ∷ []) (high ∷ []) (threshold ∷ [])
 
--- the verdict, and how many completions are models and how many are not
+-- the status, and how many completions are models and how many are not
 abbrev judged : ℕ → ℕ → ℕ → Outcome (ℕ × (ℕ × ℕ))
 judged v a b = answered (v, (a, b))
 

@@ -1,7 +1,7 @@
--- The completions of a partial assignment: how many there are, and the verdict by the two numbers of them.
+-- The completions of a partial assignment: how many there are, and the status by the two numbers of them.
 use Prim.Native.Nat.{ℕ, _+_, _*_, _^_, _≤_}
 use mathlib.Core.Path.{_≡_, refl, sym, ap, ap₂, _∙_, fun-ext}
-use mathlib.Core.Bool.{Bool, true, false, _&&_, not, cond, and-true, Bool·not-not}
+use mathlib.Core.Bool.{Bool, true, false, _&&_, not, and-true, Bool·not-not}
 use native.Mathlib.Nat.{eq-of-mul-eq-mul-right, mul-comm}
 use native.Mathlib.Omega.{arith}
 use lib.Dec.{T, T-not, not-T, eqb}
@@ -10,17 +10,13 @@ use borrow.Author.Tests.{eqb-true, eq-eqb}
 use Rattle.masks.specs.Numbers.{count}
 use Rattle.masks.proofs.Numbers.{count-ext, count-all, count-not, count-split, every-count}
 use Rattle.masks.proofs.Tests.{is-true, is-false, along}
-use Rattle.terms.specs.Completions.{modelsUnder, unknowns, verdict}
+use Rattle.terms.specs.Completions.{modelsUnder, unknowns, statusBy, status}
 use Rattle.terms.specs.Prime.{implicant, Implicant}
 use Rattle.terms.specs.Term.{mentions, agrees, IsTerm}
 use Rattle.terms.specs.declared.Term.{Term}
 use Rattle.terms.proofs.Counts.{count-agrees}
 use Rattle.terms.proofs.Implicants.{implicant-e, implicant-i}
 use Rattle.terms.proofs.Terms.{own-agrees}
-
--- the verdict by the two tests: every completion makes f true, every one makes it false
-abbrev byTests : Bool → Bool → ℕ
-byTests a b = cond a 2 (cond b 0 1)
 
 module _ (N : ℕ) (t : Term) where
   -- every completion makes f true exactly if none makes it false
@@ -32,11 +28,11 @@ module _ (N : ℕ) (t : Term) where
   negated-count f =
       implicant-count (λ s. not (f s)) ∙ ap (λ (g : ℕ → Bool). eqb (modelsUnder N g t) 0) (fun-ext (λ s. Bool·not-not (f s)))
 
-  -- the verdict by the two numbers
-  pub verdict-counts : (f : ℕ → Bool)
-      → verdict N f t ≡ cond (eqb (modelsUnder N (λ s. not (f s)) t) 0) 2 (cond (eqb (modelsUnder N f t) 0) 0 1)
-  unfolding verdict
-  verdict-counts f = ap₂ byTests (implicant-count f) (negated-count f)
+  -- the status by the two numbers
+  pub status-counts : (f : ℕ → Bool)
+      → status N f t ≡ statusBy (eqb (modelsUnder N (λ s. not (f s)) t) 0) (eqb (modelsUnder N f t) 0)
+  unfolding status
+  status-counts f = ap₂ statusBy (implicant-count f) (negated-count f)
 
   module _ (h : IsTerm N t) where
     -- 2 to the power of the unknown variables
@@ -69,59 +65,59 @@ module _ (N : ℕ) (t : Term) where
           T-not (f s) (implicant-e N negated t q s (h .fits true) (own-agrees N t h))
           (implicant-e N f t p s (h .fits true) (own-agrees N t h))
 
-      pub allowed-e : verdict N f t ≡ 2 → Implicant N f t
-      unfolding verdict
-      allowed-e = by (implicant N f t) (implicant N negated t) refl
+      pub satisfied-e : status N f t ≡ 2 → Implicant N f t
+      unfolding status
+      satisfied-e = by (implicant N f t) (implicant N negated t) refl
         where
-          by : (a b : Bool) → implicant N f t ≡ a → byTests a b ≡ 2 → Implicant N f t
+          by : (a b : Bool) → implicant N f t ≡ a → statusBy a b ≡ 2 → Implicant N f t
           by true b e k = implicant-e N f t (along (sym e) tt)
           by false true e k = absurd (omega arith)
           by false false e k = absurd (omega arith)
 
-      pub allowed-i : Implicant N f t → verdict N f t ≡ 2
-      unfolding verdict
-      allowed-i k =
-          ap (λ (a : Bool). byTests a (implicant N negated t)) (is-true (implicant N f t) (implicant-i N f t h k))
+      pub satisfied-i : Implicant N f t → status N f t ≡ 2
+      unfolding status
+      satisfied-i k =
+          ap (λ (a : Bool). statusBy a (implicant N negated t)) (is-true (implicant N f t) (implicant-i N f t h k))
 
-      pub forbidden-e : verdict N f t ≡ 0 → Implicant N negated t
-      unfolding verdict
-      forbidden-e = by (implicant N f t) (implicant N negated t) refl
+      pub falsified-e : status N f t ≡ 0 → Implicant N negated t
+      unfolding status
+      falsified-e = by (implicant N f t) (implicant N negated t) refl
         where
-          by : (a b : Bool) → implicant N negated t ≡ b → byTests a b ≡ 0 → Implicant N negated t
+          by : (a b : Bool) → implicant N negated t ≡ b → statusBy a b ≡ 0 → Implicant N negated t
           by a true e k = implicant-e N negated t (along (sym e) tt)
           by true false e k = absurd (omega arith)
           by false false e k = absurd (omega arith)
 
-      pub forbidden-i : Implicant N negated t → verdict N f t ≡ 0
-      unfolding verdict
-      forbidden-i k =
+      pub falsified-i : Implicant N negated t → status N f t ≡ 0
+      unfolding status
+      falsified-i k =
           let q : T (implicant N negated t) = implicant-i N negated t h k in
-          ap₂ byTests
+          ap₂ statusBy
           (is-false (implicant N f t) (not-T (implicant N f t) (λ p. not-both p q))) (is-true (implicant N negated t) q)
 
-      pub verdict-le : verdict N f t ≤ 2
-      unfolding verdict
-      verdict-le = by (implicant N f t) (implicant N negated t)
+      pub status-le : status N f t ≤ 2
+      unfolding status
+      status-le = by (implicant N f t) (implicant N negated t)
         where
-          by : (a b : Bool) → byTests a b ≤ 2
+          by : (a b : Bool) → statusBy a b ≤ 2
           by true b = omega arith
           by false true = omega arith
           by false false = omega arith
 
-      -- the verdicts by the numbers
-      pub no-false-e : verdict N f t ≡ 2 → modelsUnder N negated t ≡ 0
+      -- the status by one number
+      pub no-false-e : status N f t ≡ 2 → modelsUnder N negated t ≡ 0
       no-false-e e =
           eqb-true (modelsUnder N negated t) 0
-          (sym (implicant-count f) ∙ is-true (implicant N f t) (implicant-i N f t h (allowed-e e)))
+          (sym (implicant-count f) ∙ is-true (implicant N f t) (implicant-i N f t h (satisfied-e e)))
 
-      pub no-false-i : modelsUnder N negated t ≡ 0 → verdict N f t ≡ 2
-      no-false-i e = allowed-i (implicant-e N f t (along (sym (implicant-count f ∙ eq-eqb (modelsUnder N negated t) 0 e)) tt))
+      pub no-false-i : modelsUnder N negated t ≡ 0 → status N f t ≡ 2
+      no-false-i e = satisfied-i (implicant-e N f t (along (sym (implicant-count f ∙ eq-eqb (modelsUnder N negated t) 0 e)) tt))
 
-      pub no-true-e : verdict N f t ≡ 0 → modelsUnder N f t ≡ 0
+      pub no-true-e : status N f t ≡ 0 → modelsUnder N f t ≡ 0
       no-true-e e =
           eqb-true (modelsUnder N f t) 0
-          (sym (negated-count f) ∙ is-true (implicant N negated t) (implicant-i N negated t h (forbidden-e e)))
+          (sym (negated-count f) ∙ is-true (implicant N negated t) (implicant-i N negated t h (falsified-e e)))
 
-      pub no-true-i : modelsUnder N f t ≡ 0 → verdict N f t ≡ 0
+      pub no-true-i : modelsUnder N f t ≡ 0 → status N f t ≡ 0
       no-true-i e =
-          forbidden-i (implicant-e N negated t (along (sym (negated-count f ∙ eq-eqb (modelsUnder N f t) 0 e)) tt))
+          falsified-i (implicant-e N negated t (along (sym (negated-count f ∙ eq-eqb (modelsUnder N f t) 0 e)) tt))

@@ -15,6 +15,10 @@ modelsUnder N f t = count (2 ^ N) (λ s. agrees N t s && f s)
 unfoldable pub unknowns : ℕ → Term → ℕ
 unknowns N t = count N (λ x. not (mentions t x))
 
--- the verdict in the scope's numbers: 2 ("allowed") where every completion makes f true, 0 ("forbidden") where none does, else 1 ("open")
-unfoldable pub verdict : ℕ → (ℕ → Bool) → Term → ℕ
-verdict N f t = cond (implicant N f t) 2 (cond (implicant N (λ s. not (f s)) t) 0 1)
+-- the status ("verdict") in the scope's numbers: 2 ("allowed") where every completion makes f true, 0 ("forbidden") where every one makes
+-- it false, else 1 ("open")
+abbrev pub statusBy : Bool → Bool → ℕ
+statusBy allTrue allFalse = cond allTrue 2 (cond allFalse 0 1)
+
+unfoldable pub status : ℕ → (ℕ → Bool) → Term → ℕ
+status N f t = statusBy (implicant N f t) (implicant N (λ s. not (f s)) t)

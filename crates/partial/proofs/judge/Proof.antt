@@ -28,30 +28,30 @@ module _ (p : tie.After-completions) where
   abbrev f : ℕ → Bool
   f = circuit (start .args .n) (start .args .words .now)
 
-  allowed : p .before .models-under .result ≡ modelsUnder (start .args .variables) f (start .args .t)
-  allowed = p .before .models-under .ensures
+  models : p .before .models-under .result ≡ modelsUnder (start .args .variables) f (start .args .t)
+  models = p .before .models-under .ensures
 
   -- all completions, by the two numbers of them
   all : p .completions .result ≡ p .before .models-under .result + modelsUnder (start .args .variables) (λ s. not (f s)) (start .args .t)
   all =
       let x = start .args in
       let sum = completions-are (x .variables) (x .n) (x .words .now) (start .pre .0) (x .t) (start .pre .1) f in
-      omega (arith, p .completions .ensures, sum, allowed)
+      omega (arith, p .completions .ensures, sum, models)
 
-sub-forbidden : tie.Need-sub-forbidden
-sub-forbidden c = omega (arith, all c)
+sub-countermodels : tie.Need-sub-countermodels
+sub-countermodels c = omega (arith, all c)
 
-verdict-of-requires : tie.Need-verdict-of-requires
-verdict-of-requires c κs = search needs
+status-of-requires : tie.Need-status-of-requires
+status-of-requires c κs = search needs
 
 returns : tie.Need-returns
 returns c =
     let p = c .before in
     let x = start p .args in
-    judged-by (x .variables) (x .n) (x .words .now) (start p .pre .0) (x .t) (start p .pre .1) (f p) _ _ _ (c .verdict-of .ensures)
-    (allowed p) (omega (arith, all p))
+    judged-by (x .variables) (x .n) (x .words .now) (start p .pre .0) (x .t) (start p .pre .1) (f p) _ _ _ (c .status-of .ensures)
+    (models p) (omega (arith, all p))
 
 pub judge-spec : {M : Type 1} → statement M
 judge-spec =
     tie.close
-    (tie.spec models-under-requires completions-requires sub-forbidden verdict-of-requires returns)
+    (tie.spec models-under-requires completions-requires sub-countermodels status-of-requires returns)

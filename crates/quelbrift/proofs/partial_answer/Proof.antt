@@ -11,8 +11,8 @@ use Rattle.quelbrift.proofs.partial_answer.Tie as tie
 enum-known-r : tie.Need-enum-known-r
 enum-known-r c = search needs
 
-verdict-number-requires : tie.Need-verdict-number-requires
-verdict-number-requires c κs = search needs
+status-number-requires : tie.Need-status-number-requires
+status-number-requires c κs = search needs
 
 cast-done-three : tie.Need-cast-done-three
 cast-done-three c = search needs
@@ -38,7 +38,7 @@ returns c =
     let k = v .before .before in
     let j = k .r .given .0 .0 in
     settled triple partialOutcome
-    (c .done-three .ensures ∙ ap (λ (n : ℕ). doneWith n (j .allowed) (j .forbidden)) (v .verdict-number .ensures)) (k .r .given .1) refl
+    (c .done-three .ensures ∙ ap (λ (n : ℕ). doneWith n (j .models) (j .countermodels)) (v .status-number .ensures)) (k .r .given .1) refl
 
 returns-2 : tie.Need-returns-2
 returns-2 c = settled triple partialOutcome (c .refused .ensures) (c .before .before .r2 .given .1) refl
@@ -51,7 +51,7 @@ partial-answer-spec =
     tie.close
     (tie.spec
     enum-known-r
-    verdict-number-requires
+    status-number-requires
     cast-done-three
     done-three-requires
     enum-known-r-2

@@ -1,15 +1,16 @@
 -- The loops: each goes over a list of terms, and inserts some terms for each.
 use Prim.Native.Nat.{ℕ, _+_, _<_, _≤_, zero-le}
 use mathlib.Core.Path.{_≡_, refl, sym, ap, subst, _∙_}
-use mathlib.Core.Bool.{Bool, true, false, not, cond}
-use mathlib.Core.List.{List, [], _∷_, _++_, map}
+use mathlib.Core.Bool.{Bool, true}
+use mathlib.Core.List.{List, [], _∷_, _++_}
 use native.Mathlib.Omega.{arith}
 use lib.ListN.{length, drop}
 use Rattle.terms.specs.Joins.{joinsWith, joins}
-use Rattle.terms.specs.Lists.{keep, Rising}
+use Rattle.terms.specs.Lists.{Rising}
 use Rattle.terms.specs.Order.{before}
-use Rattle.terms.specs.Term.{join, conflict, termsOf}
+use Rattle.terms.specs.Term.{termsOf}
 use Rattle.terms.specs.declared.Term.{Term}
+use Rattle.terms.proofs.Built.{with-step}
 use Rattle.lists.specs.Scans.{termAt}
 use Rattle.lists.proofs.Parts.{drop-terms, drop-end}
 use Rattle.insertion.specs.Filled.{held, Filled}
@@ -91,24 +92,6 @@ module _ (m : Steps) (ps ns : List ℕ) (e : length ns ≡ length ps) (whole : L
         }
 
 -- ---- the lists that the loops make
-pub with-step : (t u : Term) (l : List Term) → joinsWith t (u ∷ l) ≡ joinsWith t (u ∷ []) ++ joinsWith t l
-with-step t u l = go (conflict t u)
-  where
-    rest : List Term
-    rest = keep (λ u. not (conflict t u)) l
-
-    go : (p : Bool) → map (join t) (cond (not p) (u ∷ rest) rest) ≡ map (join t) (cond (not p) (u ∷ []) []) ++ map (join t) rest
-    go true = refl
-    go false = refl
-
--- one term of such a list
-pub with-one : (t u : Term) (d : Bool) → conflict t u ≡ d → joinsWith t (u ∷ []) ≡ cond d [] (join t u ∷ [])
-with-one t u d e = ap (λ (z : Bool). map (join t) (cond (not z) (u ∷ []) [])) e ∙ go d
-  where
-    go : (d : Bool) → map (join t) (cond (not d) (u ∷ []) []) ≡ cond d [] (join t u ∷ [])
-    go true = refl
-    go false = refl
-
 abbrev pub joiningOne : Term → Steps
 joiningOne t = record { all = joinsWith t; one = λ u. joinsWith t (u ∷ []); none = refl; more = with-step t }
 

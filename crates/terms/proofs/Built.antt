@@ -1,10 +1,10 @@
 -- What Propositions 3 and 5 build from lists of terms is the prime implicants.
 use Prim.Native.Nat.{ℕ, _<_, _≤_}
 use mathlib.Core.Path.{_≡_, refl, sym, ap, subst, _∙_}
-use mathlib.Core.Bool.{Bool, true, false, _&&_, not, true≢false}
+use mathlib.Core.Bool.{Bool, true, false, _&&_, not, cond, true≢false}
 use mathlib.Core.Logic.{_⊎_, inl, inr, ⊎-elim}
-use mathlib.Core.List.{List, [], _∷_, _++_, List·Memᴰ, List·Memᴰ·head, List·Memᴰ·tail, List·Memᴰ·not-nil, List·Memᴰ·cases-cons}
-use mathlib.Core.List.{List·Memᴰ·append-cases, Memᴰ·append-left, Memᴰ·append-right, Memᴰ·cast}
+use mathlib.Core.List.{List, [], _∷_, _++_, map, List·Memᴰ, List·Memᴰ·head, List·Memᴰ·tail, List·Memᴰ·not-nil}
+use mathlib.Core.List.{List·Memᴰ·cases-cons, List·Memᴰ·append-cases, Memᴰ·append-left, Memᴰ·append-right, Memᴰ·cast}
 use native.Mathlib.Nat.{lt-of-lt-of-le}
 use native.Mathlib.Omega.{arith}
 use lib.Dec.{T, T-not, not-T, ltb, ltb→lt, nltb→le}
@@ -25,6 +25,25 @@ use Rattle.terms.proofs.Implicants.{Free, implicant-more, reduce-prime}
 use Rattle.terms.proofs.Sorted.{keep-out, keep-in, any-i, any-e, map-in, map-out}
 use Rattle.terms.proofs.Terms.{Inside, Unmentioned, mentions-i, join-l, join-r, has-below, join-isTerm, extend-without, inside-e}
 use Rattle.terms.proofs.Terms.{inside-i}
+
+-- ---- the joins of a term with those of a list, one by one
+pub with-step : (t u : Term) (l : List Term) → joinsWith t (u ∷ l) ≡ joinsWith t (u ∷ []) ++ joinsWith t l
+with-step t u l = go (conflict t u)
+  where
+    rest : List Term
+    rest = keep (λ u. not (conflict t u)) l
+
+    go : (p : Bool) → map (join t) (cond (not p) (u ∷ rest) rest) ≡ map (join t) (cond (not p) (u ∷ []) []) ++ map (join t) rest
+    go true = refl
+    go false = refl
+
+-- one term of such a list
+pub with-one : (t u : Term) (d : Bool) → conflict t u ≡ d → joinsWith t (u ∷ []) ≡ cond d [] (join t u ∷ [])
+with-one t u d e = ap (λ (z : Bool). map (join t) (cond (not z) (u ∷ []) [])) e ∙ go d
+  where
+    go : (d : Bool) → map (join t) (cond (not d) (u ∷ []) []) ≡ cond d [] (join t u ∷ [])
+    go true = refl
+    go false = refl
 
 -- ---- the members of joined lists
 pub joins-in : (us l : List Term) (r u t : Term) → List·Memᴰ r l → List·Memᴰ u us → T (not (conflict r u)) → t ≡ join r u

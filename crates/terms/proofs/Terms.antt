@@ -25,6 +25,10 @@ Inside t u = (x : ℕ) (b : Bool) → T (has t b x) → T (has u b x)
 abbrev pub Unmentioned : Term → ℕ → Type 0
 Unmentioned t x = (b : Bool) → T (has t b x) → ⊥
 
+-- both masks have bits below N only
+abbrev pub Fits : ℕ → Term → Type 0
+Fits N t = (b : Bool) → mask t b < 2 ^ N
+
 -- ---- literals taken away, added and joined, of either sign
 mask-without : (t : Term) (x : ℕ) (b : Bool) → mask (without t x) b ≡ put (mask t b) x false
 mask-without t x true = refl
@@ -134,14 +138,15 @@ module _ (N : ℕ) where
   pub has-below : (t : Term) → IsTerm N t → (x : ℕ) (b : Bool) → T (has t b x) → x < N
   has-below t h x b p = bit-below N (mask t b) x (h .fits b) p
 
-  -- terms with the same literals are the same
-  pub term-ext : (t u : Term) → IsTerm N t → IsTerm N u → Inside t u → Inside u t → t ≡ u
-  term-ext t u h k i j = λ d. record { positive = masks true d; negative = masks false d }
+  -- masks with the same literals are the same
+  pub masks-ext : (t u : Term) → Fits N t → Fits N u → ((x : ℕ) (b : Bool) → x < N → has t b x ≡ has u b x) → t ≡ u
+  masks-ext t u h k same = λ d. record { positive = masks true d; negative = masks false d }
     where
       masks : (b : Bool) → mask t b ≡ mask u b
-      masks b =
-          bit-ext N (mask t b) (mask u b) (h .fits b) (k .fits b)
-          (λ x l. same-test (has t b x) (has u b x) (i x b) (j x b))
+      masks b = bit-ext N (mask t b) (mask u b) (h b) (k b) (λ x l. same x b l)
+
+  pub term-ext : (t u : Term) → IsTerm N t → IsTerm N u → Inside t u → Inside u t → t ≡ u
+  term-ext t u h k i j = masks-ext t u (h .fits) (k .fits) (λ x b l. same-test (has t b x) (has u b x) (i x b) (j x b))
 
   pub empty-isTerm : IsTerm N empty
   empty-isTerm = record { fits = λ b. elim b [ true ↦ pow-pos N | false ↦ pow-pos N ]; once = λ x b c p q. absurd (empty-has x b p) }
@@ -171,16 +176,15 @@ module _ (N : ℕ) where
           (λ y c n p q. h .once y c d (along (extend-there t x y b c n) p) (along (extend-there t x y b d n) q))
           y c p q
 
-  join-fits : (t u : Term) → IsTerm N t → IsTerm N u → (b : Bool) → mask (join t u) b < 2 ^ N
-  join-fits t u h k b =
-      subst (λ (m : ℕ). m < 2 ^ N) (sym (mask-join t u b)) (or-lt N (mask t b) (mask u b) (h .fits b) (k .fits b))
+  pub join-fits : (t u : Term) → Fits N t → Fits N u → Fits N (join t u)
+  join-fits t u h k b = subst (λ (m : ℕ). m < 2 ^ N) (sym (mask-join t u b)) (or-lt N (mask t b) (mask u b) (h b) (k b))
 
   -- two terms join to a term where their signs do not differ
   pub join-isTerm : (t u : Term) → IsTerm N t → IsTerm N u
       → ((x : ℕ) (b c : Bool) → T (has t b x) → T (has u c x) → b ≡ c) → IsTerm N (join t u)
   join-isTerm t u h k same =
       record {
-        fits = join-fits t u h k;
+        fits = join-fits t u (h .fits) (k .fits);
         once = λ x b c p q. go x b c (join-cases t u b x p) (join-cases t u c x q);
       }
     where

@@ -4,11 +4,11 @@ use mathlib.Core.Path.{sym, subst, _∙_}
 use mathlib.Core.Bool.{Bool, true, false}
 use mathlib.Core.List.{List, [], _∷_}
 use Rattle.terms.specs.declared.Term.{Term}
+use Rattle.terms.proofs.Built.{with-one}
 use Rattle.insertion.specs.Filled.{bySign}
 use Rattle.insertion.specs.declared.Kept.the-variants.{Count}
 use Rattle.insertion.proofs.Parts.{even, filled-none}
 use Rattle.joins.specs.Added.{Added}
-use Rattle.joins.proofs.Turns.{with-one}
 use borrow.Author.Needs.{needs}
 use Rattle.joins.proofs.add_join.Statement.{statement}
 use Rattle.joins.proofs.add_join.Tie as tie

@@ -1,0 +1,4 @@
+pub mod States
+pub mod Made
+pub mod Joined
+pub mod NineCases

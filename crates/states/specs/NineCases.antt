@@ -28,7 +28,7 @@ pub record NineCases (N : ℕ) (t u : Term) : Type 0 where
   pub results : (x : ℕ) → CaseOf t u x
   -- joined variable by variable they are that join, unless they conflict
   pub joins : joinByCases N t u ≡ cond (conflict t u) TermJoin.Conflict (TermJoin.Is (join t u))
-  -- and so is what the terms of two lists add to the list of their joins
+  -- what the two add to a list of joins, in the words of the builder's contracts, is that join, or nothing
   pub adds : joinsWith t (u ∷ []) ≡ termsIn (joinByCases N t u)
   -- the article's conjunction: an assignment agrees with both exactly if they do not conflict and it agrees with their join
   pub means : (s : ℕ) → (agrees N t s && agrees N u s) ≡ (not (conflict t u) && agrees N (join t u) s)

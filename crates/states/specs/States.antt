@@ -18,6 +18,7 @@ joinStates State.Positive State.Absent = StateJoin.Is State.Positive
 joinStates State.Positive State.Negative = StateJoin.Conflict
 joinStates State.Positive State.Positive = StateJoin.Is State.Positive
 
+-- no state comes of it
 abbrev pub isConflict : StateJoin → Bool
 isConflict (StateJoin.Is s) = false
 isConflict StateJoin.Conflict = true

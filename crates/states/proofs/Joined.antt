@@ -11,7 +11,7 @@ use Rattle.masks.proofs.Tests.{and-i, and-l, and-r, decide, same-test}
 use Rattle.terms.specs.Term.{isTerm, agrees, join, conflict, Agrees, IsTerm}
 use Rattle.terms.specs.declared.Term.{Term}
 use Rattle.terms.proofs.Built.{conflict-free, joined-free}
-use Rattle.terms.proofs.Terms.{Fits, join-cases, join-l, join-r, agrees-inside, join-fits, join-isTerm, isTerm-e, isTerm-i}
+use Rattle.terms.proofs.Terms.{MasksFit, join-cases, join-l, join-r, agrees-inside, join-fits, join-isTerm, isTerm-e, isTerm-i}
 use Rattle.terms.proofs.Terms.{agrees-e, agrees-i}
 use Rattle.states.specs.Joining.{joinByCases}
 use Rattle.states.specs.NineCases.{CaseOf}
@@ -28,7 +28,7 @@ module _ (N : ℕ) (t u : Term) where
       (λ x l. ap isConflict (join-state t u x))
 
   -- any two pairs of masks
-  pub joined-masks : Fits N t → Fits N u
+  pub joined-masks : MasksFit N t → MasksFit N u
       → joinByCases N t u ≡ cond (some N (λ x. isConflict (caseAt t u x))) TermJoin.Conflict (TermJoin.Is (join t u))
   joined-masks h k =
       made-ext (caseAt t u) (stateAt (join t u)) N (λ x. sym (join-state t u x))

@@ -14,7 +14,7 @@ use Rattle.masks.proofs.Numbers.{some-e, some-i}
 use Rattle.masks.proofs.Tests.{along, below-suc, decide, is-true, same-test}
 use Rattle.terms.specs.Term.{empty, mask, has, isTerm, IsTerm}
 use Rattle.terms.specs.declared.Term.{Term}
-use Rattle.terms.proofs.Terms.{Fits, masks-ext, empty-isTerm, isTerm-e, isTerm-i}
+use Rattle.terms.proofs.Terms.{MasksFit, masks-ext, empty-isTerm, isTerm-e, isTerm-i}
 use Rattle.states.specs.Joining.{withState, withSaid, made}
 use Rattle.states.specs.States.{isConflict, stateBy, stateAt}
 use Rattle.states.specs.declared.State.{State}
@@ -46,7 +46,7 @@ state-bit t x false = by (has t true x) (has t false x)
     by false false = refl
 
 -- masks with the same states are the same
-pub same-states : (N : ℕ) (t u : Term) → Fits N t → Fits N u → ((x : ℕ) → x < N → stateAt t x ≡ stateAt u x) → t ≡ u
+pub same-states : (N : ℕ) (t u : Term) → MasksFit N t → MasksFit N u → ((x : ℕ) → x < N → stateAt t x ≡ stateAt u x) → t ≡ u
 same-states N t u h k same =
     masks-ext N t u h k
     (λ x b l. state-bit t x b ∙ ap (λ (s : StateJoin). bitIn s b) (same x l) ∙ sym (state-bit u x b))
@@ -115,7 +115,7 @@ module _ (f : ℕ → StateJoin) where
 
 -- ---- the states of any two masks
 -- they are a term exactly if no variable reads as a conflict
-module _ (N : ℕ) (t : Term) (h : Fits N t) where
+module _ (N : ℕ) (t : Term) (h : MasksFit N t) where
   abbrev conflictAt : ℕ → Bool
   conflictAt x = isConflict (stateAt t x)
 

@@ -26,8 +26,8 @@ abbrev pub Unmentioned : Term → ℕ → Type 0
 Unmentioned t x = (b : Bool) → T (has t b x) → ⊥
 
 -- both masks have bits below N only
-abbrev pub Fits : ℕ → Term → Type 0
-Fits N t = (b : Bool) → mask t b < 2 ^ N
+abbrev pub MasksFit : ℕ → Term → Type 0
+MasksFit N t = (b : Bool) → mask t b < 2 ^ N
 
 -- ---- literals taken away, added and joined, of either sign
 mask-without : (t : Term) (x : ℕ) (b : Bool) → mask (without t x) b ≡ put (mask t b) x false
@@ -139,7 +139,7 @@ module _ (N : ℕ) where
   has-below t h x b p = bit-below N (mask t b) x (h .fits b) p
 
   -- masks with the same literals are the same
-  pub masks-ext : (t u : Term) → Fits N t → Fits N u → ((x : ℕ) (b : Bool) → x < N → has t b x ≡ has u b x) → t ≡ u
+  pub masks-ext : (t u : Term) → MasksFit N t → MasksFit N u → ((x : ℕ) (b : Bool) → x < N → has t b x ≡ has u b x) → t ≡ u
   masks-ext t u h k same = λ d. record { positive = masks true d; negative = masks false d }
     where
       masks : (b : Bool) → mask t b ≡ mask u b
@@ -176,7 +176,7 @@ module _ (N : ℕ) where
           (λ y c n p q. h .once y c d (along (extend-there t x y b c n) p) (along (extend-there t x y b d n) q))
           y c p q
 
-  pub join-fits : (t u : Term) → Fits N t → Fits N u → Fits N (join t u)
+  pub join-fits : (t u : Term) → MasksFit N t → MasksFit N u → MasksFit N (join t u)
   join-fits t u h k b = subst (λ (m : ℕ). m < 2 ^ N) (sym (mask-join t u b)) (or-lt N (mask t b) (mask u b) (h b) (k b))
 
   -- two terms join to a term where their signs do not differ

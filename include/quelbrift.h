@@ -4,10 +4,11 @@
  * examples/list.c is a whole program.
  *
  * Calls. Every function takes any numbers and any contents of the buffers. It ends, and does its work or refuses by a number. A
- * buffer is a pointer and then its length in elements; it may always be longer than needed, but for a list of measurements: its length
- * is its number of entries. The caller must see to three things. No pointer is NULL, not even where the length is 0. It points to at
- * least that many elements. A buffer that is written overlaps no other. No function keeps a pointer or state, and calls from several
- * threads at once do not disturb one another. A call needs at most 512 KiB of stack. Bytes, nodes and measurements are counted from 0.
+ * buffer is a pointer and then its length in elements; it may always be longer than needed, but for a list of measurements and for the
+ * steps of a walk: there the length is the number of entries. The caller must see to three things. No pointer is NULL, not even where
+ * the length is 0. It points to at least that many elements. A buffer that is written overlaps no other. No function keeps a pointer or
+ * state, and calls from several threads at once do not disturb one another. A call needs at most 512 KiB of stack. Bytes, nodes,
+ * measurements and steps are counted from 0.
  *
  * Vocabulary. A fact of the trade is a variable here, a stow an assignment, a row a term, a mark a literal, a clearance a prime
  * implicant, a blocker a prime implicant of the negation, the room a capacity, a reading a measurement. An assignment is a mask: bit i
@@ -39,7 +40,7 @@ extern "C" {
 #endif
 
 /* The version. It is raised whenever this header or an answer of the archive changes. quelbrift_version() gives the archive's. */
-#define QUELBRIFT_VERSION 4
+#define QUELBRIFT_VERSION 5
 
 /* The limits. */
 #define QUELBRIFT_MAX_VARIABLES 40   /* the variables of a table: 1 to 40 */
@@ -50,6 +51,7 @@ extern "C" {
 #define QUELBRIFT_MAX_TEXT 110000    /* at most so many bytes in a circuit text */
 #define QUELBRIFT_MAX_DEPTH 16       /* and brackets at most so deep */
 #define QUELBRIFT_MAX_LINE 117       /* the bytes of the longest stow line that is accepted */
+#define QUELBRIFT_MAX_STEPS 256      /* the steps of a loading script: 0 to 256 */
 
 /*
  * How many elements a buffer needs. No call needs more than:
@@ -58,13 +60,15 @@ extern "C" {
  *     positives and negatives  QUELBRIFT_ENTRIES(QUELBRIFT_MAX_NODES, QUELBRIFT_MAX_CAPACITY), 4,194,304 each (32 MiB each)
  *     counts                   QUELBRIFT_MAX_NODES, 1,024
  *     measurements             QUELBRIFT_MAX_VARIABLES, 40: one a variable at most, so a longer list is refused
+ *     steps, statuses and compatibles  QUELBRIFT_MAX_STEPS, 256
  */
 #define QUELBRIFT_WORDS(nodes) ((size_t)(nodes) * QUELBRIFT_NODE_WORDS)
 #define QUELBRIFT_ENTRIES(nodes, capacity) ((size_t)(nodes) * (size_t)(capacity))
 
 /*
  * number  0: the work is done; else the number of the refusal
- * place   of a refusal: its byte, its node, its measurement, or the needed length; 0 where it has none, and where the work is done
+ * place   of a refusal: its byte, its node, its measurement, its step, or the needed length; 0 where it has none, and where the work is
+ *         done
  * first   the first value of the function; 0 where it has none, and with every refusal
  * second  the second value of the function; 0 likewise
  * third   the third value of the function; 0 likewise
@@ -81,6 +85,17 @@ typedef struct {
 #define QUELBRIFT_FORBIDDEN 0 /* no completion is allowed */
 #define QUELBRIFT_OPEN 1      /* some are, and some are not */
 #define QUELBRIFT_ALLOWED 2   /* every completion is allowed */
+
+/* A step of a loading script: a variable (the fact), and what is done with it. */
+typedef struct {
+    uint32_t variable;
+    uint32_t act;
+} quelbrift_step;
+
+/* The acts. Any other is refused by 54. */
+#define QUELBRIFT_SET_NO 0  /* (set V no) */
+#define QUELBRIFT_SET_YES 1 /* (set V yes) */
+#define QUELBRIFT_DROP 2    /* (drop V): unknown again */
 
 enum {
     QUELBRIFT_DONE = 0,
@@ -105,14 +120,19 @@ enum {
     QUELBRIFT_ASSIGNMENT = 31,  /* a bit at the number of variables or above */
     QUELBRIFT_NOT_TERM = 32,    /* such a bit, or one in both masks */
     QUELBRIFT_UNSATISFIED = 33, /* the assignment is not allowed */
-    QUELBRIFT_BUFFERS = 41,     /* a capacity above 4,096, a row buffer below nodes * capacity, or counts below nodes */
+    QUELBRIFT_BUFFERS = 41,     /* a capacity above 4,096, a row buffer below nodes * capacity, counts below nodes, or, in a walk,
+                                   statuses or compatibles below the number of steps */
     QUELBRIFT_CAPACITY = 42,    /* more prime implicants, of the circuit or of the negation as listed, than the capacity */
     /* of an assignment line, with the byte */
     QUELBRIFT_LINE_SHAPE = 51, /* wrong shape, placed as 11 */
     QUELBRIFT_LINE_ORDER = 52, /* a variable out of range, or not above the one before; the byte after the number */
     /* of the measurements, with the lowest wrong one */
-    QUELBRIFT_MEASUREMENT = 53 /* low above high; a variable out of range, with a literal in the term, or measured by an earlier entry;
-                                  or an entry that is incomplete */
+    QUELBRIFT_MEASUREMENT = 53, /* low above high; a variable out of range, with a literal in the term, or measured by an earlier
+                                   entry; or an entry that is incomplete */
+    /* of a loading script, with the byte where it is read, with the lowest wrong step where it is walked */
+    QUELBRIFT_STEP_SHAPE = 54,   /* wrong shape, placed as 11; an act above 2; a step beyond 256 or, where it is read, beyond the list:
+                                    its opening bracket, or step 256 */
+    QUELBRIFT_STEP_VARIABLE = 55 /* a variable out of range; the byte after the number, or the step */
 };
 
 /* A text for each number, for messages. */
@@ -140,6 +160,8 @@ static inline const char *quelbrift_text(uint32_t number)
     case QUELBRIFT_LINE_SHAPE: return "the stow line has the wrong shape";
     case QUELBRIFT_LINE_ORDER: return "a fact of the stow line is out of range or out of order";
     case QUELBRIFT_MEASUREMENT: return "a reading is incomplete, its low above its high, or its fact out of range, marked or read already";
+    case QUELBRIFT_STEP_SHAPE: return "the loading script has the wrong shape, or a step too many";
+    case QUELBRIFT_STEP_VARIABLE: return "a fact of the loading script is out of range";
     default: return "no number of Quelbrift";
     }
 }
@@ -260,6 +282,34 @@ quelbrift_answer quelbrift_view(const uint64_t *buffer, size_t buffer_length, ui
  * byte, 51 if both are at the same one.
  */
 quelbrift_answer quelbrift_read_assignment(const uint8_t *line, size_t line_length, uint32_t variables);
+
+/*
+ * Reads a loading script into the list of steps. Each line is (set V yes), (set V no) or (drop V), and ends in byte 10; the empty text
+ * is a script of no steps. Spaces and numbers are as in a circuit text. A script of any length is taken, of at most 256 steps and at
+ * most list_length.
+ * Done: first is the number of steps; the entries past them are unchanged. Refuses: 21 (place 0) where the number of variables is out
+ * of range; else 54 or 55 at the lowest byte, 54 if both are at the same one. The whole list is unchanged then.
+ */
+quelbrift_answer quelbrift_read_script(const uint8_t *text, size_t text_length, uint32_t variables, quelbrift_step *list,
+                                       size_t list_length);
+
+/*
+ * Walks a loading script through a circuit: lists the clearances of every node, as quelbrift_list does and into the same buffers, and
+ * then takes the steps one after the other. At first nothing is known. A step sets its variable, whatever an earlier step said of it,
+ * or makes it unknown again. What is known is a partial assignment.
+ * Done: statuses[i] is QUELBRIFT_ALLOWED, QUELBRIFT_FORBIDDEN or QUELBRIFT_OPEN, as quelbrift_evaluate_partial says of what is known
+ * after step i, and compatibles[i] is the number of the circuit's clearances (those of the last node) that contradict none of it: 0
+ * exactly where the status is QUELBRIFT_FORBIDDEN. Entries at list_length and later are unchanged. first is 1 where from some step to
+ * the last every status is QUELBRIFT_ALLOWED, and second is the first such step; else both are 0.
+ * Refuses: 21 to 25; then, with the lowest wrong step, 54 for an act above 2, or for step 256, or 55 for a variable out of range, 54 if
+ * both; then 41, for the listing's buffers or where statuses or compatibles are shorter than the list. All five buffers are unchanged
+ * then. Then 42: rows and counts as quelbrift_list leaves them, statuses and compatibles unchanged.
+ * Time: that of one listing; for each step a pass over the nodes, and one over the circuit's clearances.
+ */
+quelbrift_answer quelbrift_walk(const uint32_t *words, size_t words_length, uint32_t variables, uint32_t nodes, uint32_t capacity,
+                                const quelbrift_step *list, size_t list_length, uint64_t *positives, size_t positives_length,
+                                uint64_t *negatives, size_t negatives_length, uint32_t *counts, size_t counts_length,
+                                uint32_t *statuses, size_t statuses_length, uint32_t *compatibles, size_t compatibles_length);
 
 #ifdef __cplusplus
 }

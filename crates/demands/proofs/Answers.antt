@@ -1,10 +1,9 @@
 -- Laws of what an operation may answer, and where the check of a table and a question to it may be refused.
-use Prim.Native.Nat.{ℕ, _≤_}
-use mathlib.Core.Path.{_≡_, refl, sym}
+use Prim.Native.Nat.{ℕ}
+use mathlib.Core.Path.{_≡_, refl, sym, _∙_}
 use mathlib.Core.Bool.{Bool, true, false, cond}
-use mathlib.Core.Logic.{inl, inr}
+use mathlib.Core.Logic.{inl, inr, _≢_}
 use mathlib.Core.List.{List, [], _∷_, _++_, map}
-use native.Mathlib.Omega.{arith}
 use lib.Dec.{ltb, ltb→lt}
 use Rattle.masks.specs.Numbers.{least}
 use Rattle.masks.proofs.Tests.{along}
@@ -23,9 +22,25 @@ among-right : (rs qs : Refusals) (k p : ℕ) → Among qs k p → Among (rs ++ q
 among-right [] qs k p h = h
 among-right (r ∷ rs) qs k p h = inr (among-right rs qs k p h)
 
+-- also between others
+pub among-between : (rs ps qs : Refusals) (k p : ℕ) → Among (rs ++ qs) k p → Among (rs ++ (ps ++ qs)) k p
+among-between [] ps qs k p h = among-right ps qs k p h
+among-between (r ∷ rs) ps qs k p (inl e) = inl e
+among-between (r ∷ rs) ps qs k p (inr h) = inr (among-between rs ps qs k p h)
+
 pub answers-right : {A : Type 0} (rs qs : Refusals) (o : Outcome A) → Answers qs o → Answers (rs ++ qs) o
 answers-right rs qs (answered v) h = tt
 answers-right rs qs (refused k p) h = among-right rs qs k p h
+
+-- ---- none of these refusals has the number j
+abbrev pub Without : ℕ → Refusals → Type 0
+Without j [] = Unit {0}
+Without j (r ∷ rs) = (r .0 ≢ j) × Without j rs
+
+pub among-other : (j : ℕ) (rs : Refusals) (k p : ℕ) → Without j rs → Among rs k p → k ≢ j
+among-other j [] k p none h = absurd h
+among-other j (r ∷ rs) k p (d, none) (inl (e, i)) = λ c. d (sym e ∙ c)
+among-other j (r ∷ rs) k p (d, none) (inr h) = among-other j rs k p none h
 
 -- ---- a test that refuses by k, before what is refused by qs
 pub answers-test : {A : Type 0} (b : Bool) (k : ℕ) (qs : Refusals) (o : Outcome A) → Answers qs o
@@ -61,15 +76,6 @@ check-by-answers N n w rs = answers-test (inRange N n w) 21 (ruleRefusals n rs) 
 pub check-answers : (N n : ℕ) (w : List ℕ) → Answers (tableRefusals n) (check N n w)
 unfolding check
 check-answers N n w = check-by-answers N n w (rules N n w)
-
--- its numbers
-pub table-number : (n k i : ℕ) → Among (tableRefusals n) k i → (21 ≤ k) × (k ≤ 25)
-table-number n k i (inl (e, l)) = (omega arith, omega arith)
-table-number n k i (inr (inl (e, l))) = (omega arith, omega arith)
-table-number n k i (inr (inr (inl (e, l)))) = (omega arith, omega arith)
-table-number n k i (inr (inr (inr (inl (e, l))))) = (omega arith, omega arith)
-table-number n k i (inr (inr (inr (inr (inl (e, l)))))) = (omega arith, omega arith)
-table-number n k i (inr (inr (inr (inr (inr x))))) = absurd x
 
 -- a question to a table
 pub question-answers : {A : Type 0} (N n : ℕ) (w : List ℕ) (qs : Refusals) (o : Outcome A) → Answers qs o

@@ -6,7 +6,7 @@ use mathlib.Core.List.{List, [], _∷_, _++_}
 use Rattle.masks.specs.Mask.{within}
 use Rattle.masks.specs.Numbers.{count}
 use Rattle.table.specs.Outcome.{answered, refused}
-use Rattle.text.specs.AssignmentLine.{maskOf}
+use Rattle.text_assignment.specs.Answers.{answeredMask}
 use Rattle.terms.specs.Prime.{implicant, prime, reduce}
 use Rattle.terms.specs.Term.{isTerm}
 use Rattle.terms.specs.declared.Term.{Term}
@@ -17,7 +17,9 @@ use Rattle.demands.proofs.Answers.{answers-test, check-answers, questio
 use Rattle.demands.proofs.Listing.{list-answers, list-kept, list-zeroed, list-rest, view-part, view-none}
 use Rattle.demands.proofs.Partial.{partial-answers}
 use Rattle.demands.proofs.Reading.{read-answers, read-zeros, line-answers}
+use Rattle.demands.proofs.Scripts.{script-answers, script-kept, script-rest}
 use Rattle.demands.proofs.Unread.{same-answers}
+use Rattle.demands.proofs.Walking.{walk-answers, walk-kept, walk-lack, walk-rest}
 use Rattle.demands.proofs.Writing.{write-answers, write-needed, write-kept, write-rest}
 
 reduce-answers : (N n : ℕ) (w : List ℕ) (s : ℕ) → Answers (tableRefusals n ++ ((31, At 0) ∷ (33, At 0) ∷ [])) (reduction N n w s)
@@ -51,6 +53,13 @@ any-input =
       view = view-part;
       view-empty = view-none;
       line = line-answers;
-      line-refused = λ s N k p h. ap maskOf h;
+      line-refused = λ s N k p h. ap answeredMask h;
+      script = script-answers;
+      script-refused = script-kept;
+      script-past = script-rest;
+      walk = walk-answers;
+      walk-refused = walk-kept;
+      walk-lack = walk-lack;
+      walk-past = walk-rest;
       unread = same-answers;
     }

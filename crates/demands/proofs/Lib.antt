@@ -1,8 +1,11 @@
 pub mod Answers
 pub mod Partial
 pub mod Reading
+pub mod Scripts
 pub mod Writing
 pub mod Listing
+pub mod Walking
+pub mod Walked
 pub mod Unread
 pub mod AnyInput
 pub mod OneMeaning

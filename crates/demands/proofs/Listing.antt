@@ -22,7 +22,7 @@ use Rattle.listing.specs.Listing.{nodePrimes, listedMasks, listedCounts, suffic
 use Rattle.listing.specs.Listing.{listTable, viewed, Lent, ListOut}
 use Rattle.listing.proofs.Table.{Fit, length-listed, length-counts}
 use Rattle.demands.specs.Demands.{At, Refusals, Answers, tableRefusals}
-use Rattle.demands.proofs.Answers.{among-left, answers-right, check-answers, table-number}
+use Rattle.demands.proofs.Answers.{among-left, answers-right, check-answers, among-other}
 
 module _ (c : Bool) (N n : ℕ) (w : List ℕ) (R : ℕ) (b : Lent) where
   abbrev F : ℕ → ℕ → Bool
@@ -95,10 +95,7 @@ module _ (c : Bool) (N n : ℕ) (w : List ℕ) (R : ℕ) (b : Lent) where
 
   checked-lack : (o : Outcome (Unit {0})) (p : ℕ) → Answers (tableRefusals n) o → byCheck o .answer ≡ refused 42 p → Zeroed (byCheck o)
   checked-lack (answered u) p a h = room-lack (suffices n R b) (exceeds N n F R) p h
-  checked-lack (refused k i) p a h =
-      let l : (21 ≤ k) × (k ≤ 25) = table-number n k i a in
-      let e : k ≡ 42 = same-number k i 42 p h .0 in
-      absurd (omega arith)
+  checked-lack (refused k i) p a h = absurd (among-other 42 (tableRefusals n) k i (omega arith) a (same-number k i 42 p h .0))
 
   checked-past : (o : Outcome (Unit {0})) → check N n w ≡ o → byCheck o .answer ≡ answered tt → KeptPast (byCheck o)
   checked-past (answered u) acc h = room-past acc (suffices n R b) (exceeds N n F R) refl h

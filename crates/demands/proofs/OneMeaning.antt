@@ -9,7 +9,8 @@ use Rattle.masks.proofs.Tests.{is-true, is-false}
 use Rattle.table.specs.Outcome.{accepted, Outcome, answered, refused}
 use Rattle.table.proofs.Outcomes.{after-accepted}
 use Rattle.text.proofs.Determined.{reading-is, reading-only}
-use Rattle.text.proofs.LineDetermined.{line-reading-is, line-reading-only}
+use Rattle.text_assignment.proofs.Lines.{line-reading-is, line-reading-only}
+use Rattle.text_script.proofs.Lines.{script-reading-is, script-reading-only}
 use Rattle.text.proofs.Ordered.{tree-ordered}
 use Rattle.text.proofs.RoundTrip.{writes, written-read}
 use Rattle.terms.specs.Prime.{implicant, prime, reduce, Implicant, Prime}
@@ -26,6 +27,8 @@ use Rattle.queries.specs.Queries.{circuit, evaluation, modelCount, implicantTes
 use Rattle.queries.proofs.Struck.{reduction-prime}
 use Rattle.demands.specs.Demands.{Decides, ReducedTo, Means, OneMeaning}
 use Rattle.demands.proofs.Partial.{partial-judged}
+use Rattle.demands.proofs.Walked.{walked}
+use Rattle.demands.proofs.Walking.{walks}
 
 module _ (N n : ℕ) (w : List ℕ) (acc : check N n w ≡ accepted) where
   models : modelCount N n w ≡ answered (count (2 ^ N) (circuit n w))
@@ -85,6 +88,8 @@ module _ (N n : ℕ) (w : List ℕ) (acc : check N n w ≡ accepted) where
         reduced = reduced;
         unsatisfied = unsatisfied;
         partial = λ t m h none. partial-judged N t m h none n w acc;
+        walks = λ R es b. walks N n w R es b acc;
+        walk = λ R es b v h. walked N n w R es b v acc h;
       }
 
 pub one-meaning : OneMeaning
@@ -96,6 +101,8 @@ one-meaning =
       ordered = tree-ordered;
       line = line-reading-is;
       line-only = line-reading-only;
+      script = script-reading-is;
+      script-only = script-reading-only;
       writes = writes;
       written-read = written-read;
     }

@@ -7,12 +7,12 @@ use native.Mathlib.Omega.{arith}
 use native.Mathlib.Decide.{decLe}
 use lib.ListN.{length, replicate}
 use Rattle.table.specs.Outcome.{Outcome, answered, refused}
-use Rattle.text.specs.AssignmentLine.{readAssignment}
-use Rattle.text.specs.LineMeaning.{LineReadsAs}
 use Rattle.text.specs.Meaning.{RefusedAs}
 use Rattle.text.specs.Read.{readText}
 use Rattle.text.proofs.Determined.{refused-is}
-use Rattle.text.proofs.LineDetermined.{line-refused-is}
+use Rattle.text_assignment.specs.Line.{readAssignment}
+use Rattle.text_assignment.specs.Meaning.{LineReadsAs}
+use Rattle.text_assignment.proofs.Lines.{line-refused-is, line-number}
 use Rattle.demands.specs.Demands.{Below, Among, Answers, readRefusals, lineRefusals}
 
 -- one of four numbers, each with the same places
@@ -27,8 +27,8 @@ fault-among l k p lo hi i = inr (inr (by (decLe k 12) (decLe k 13) (decLe k 14))
 
 refused-among : (s : List ℕ) (m k p : ℕ) → RefusedAs s m k p → Among (readRefusals (length s)) k p
 refused-among s m k p (inl (e, o)) = inl (e, o .place)
-refused-among s m k p (inr (inl (e, o))) = inr (inl (e, o .inside))
-refused-among s m k p (inr (inr o)) = fault-among (length s) k p (o .number .0) (o .number .1) (o .inside)
+refused-among s m k p (inr (inl (e, o))) = inr (inl (e, o .at .inside))
+refused-among s m k p (inr (inr o)) = fault-among (length s) k p (o .number .0) (o .number .1) (o .at .inside)
 
 pub read-answers : (s : List ℕ) (m : ℕ) → Answers (readRefusals (length s)) (readText s m .answer)
 read-answers s m = by (readText s m .answer) refl
@@ -44,7 +44,7 @@ read-zeros s m k p h = refused-is s m k p h .0
 line-among : (s : List ℕ) (N k p : ℕ) → LineReadsAs s N (refused k p) → Among (lineRefusals (length s)) k p
 line-among s N k p (inl (e, i, t)) = inl (e, i)
 line-among s N k p (inr (t, inl (e, o))) = inr (inl (e, o .inside))
-line-among s N k p (inr (t, inr (e, o))) = inr (inr (inl (e, o .inside)))
+line-among s N k p (inr (t, inr (n, o))) = inr (inr (inl (line-number s N k p o, o .inside)))
 
 pub line-answers : (s : List ℕ) (N : ℕ) → Answers (lineRefusals (length s)) (readAssignment s N)
 line-answers s N = by (readAssignment s N) refl

@@ -10,6 +10,7 @@ use Rattle.masks.specs.Mask.{within}
 use Rattle.masks.specs.Numbers.{count, below}
 use Rattle.masks.proofs.Numbers.{below-out}
 use Rattle.masks.proofs.Tests.{and-l, and-r}
+use Rattle.steps.specs.declared.Step.{Step}
 use Rattle.table.specs.Layout.{wordsFor}
 use Rattle.table.specs.Node.{nodeAt}
 use Rattle.table.specs.Outcome.{accepted, after, Outcome, answered, refused}
@@ -31,6 +32,7 @@ use Rattle.queries.specs.Queries.{circuit, evaluation, modelCount, implicantTes
 use Rattle.partial.specs.Partial.{judgement, partialEvaluation}
 use Rattle.listing.specs.Listing.{lent, Lent, nodePrimes, padded, listedMasks, listedCounts, suffices, exceeds, untouched, cleared}
 use Rattle.listing.specs.Listing.{filled, listChecked, listTable, ListOut}
+use Rattle.walk.specs.Walk.{checkSteps, walkListed, stepsFit, walkChecked, walkTable, WalkLent}
 use Rattle.demands.specs.Demands.{SameAnswers}
 
 map-local : {A B : Type 0} (f g : A → B) (l : List A) → ((a : A) → List·Memᴰ a l → f a ≡ g a) → map f l ≡ map g l
@@ -156,6 +158,23 @@ module _ (N n : ℕ) (w v : List ℕ) (long : wordsFor n ≤ length w) where
               (exceeds-unread R acc) filled-unread
           by (refused k i) e = refl
 
+  -- ---- the walk
+  walk-unread : (R : ℕ) (es : List Step) (b : WalkLent) → walkTable N n w′ R es b ≡ walkTable N n w R es b
+  unfolding walkTable
+  walk-unread R es b =
+      ap (λ (c : Outcome (Unit {0})). walkChecked N n w′ R es b (after c steps)) check-unread ∙ by (check N n w) steps refl
+    where
+      steps : Outcome (Unit {0})
+      steps = checkSteps N 0 es
+
+      by : (c d : Outcome (Unit {0})) → check N n w ≡ c → walkChecked N n w′ R es b (after c d) ≡ walkChecked N n w R es b (after c d)
+      by (answered u) (answered v) acc =
+          ap₂ (λ (f : ℕ → Bool) (l : ListOut).
+          cond (stepsFit es b) (walkListed N f es b (l .after) (l .answer)) (record { answer = refused 41 0; after = b }))
+          (function-same n w w′ same (pred n) (node-there acc)) (list-unread true R (b .rows))
+      by (answered u) (refused k i) acc = refl
+      by (refused k i) d e = refl
+
   -- ---- the writing
   text-unread : tableText N n w′ ≡ tableText N n w
   unfolding tableText
@@ -186,4 +205,5 @@ module _ (N n : ℕ) (w v : List ℕ) (long : wordsFor n ≤ length w) where
         reduce = reduce-unread;
         partial = partial-unread;
         list = list-unread;
+        walk = walk-unread;
       }

@@ -1,5 +1,5 @@
 -- Where the writing of a table may be refused, and what it leaves in the sink.
-use Prim.Native.Nat.{ℕ, _≤_}
+use Prim.Native.Nat.{ℕ}
 use mathlib.Core.Path.{_≡_, refl, sym, ap, _∙_}
 use mathlib.Core.Bool.{Bool, true, false, cond}
 use mathlib.Core.Logic.{inl}
@@ -14,7 +14,7 @@ use Rattle.table.specs.Words.{malformed, checkWords}
 use Rattle.text.specs.Write.{tableText, writeText, writeChecked, writeTable, WriteOut}
 use Rattle.text.proofs.Readers.{value-not, same-number}
 use Rattle.demands.specs.Demands.{At, Below, Above, Refusals, Answers, writeRefusals}
-use Rattle.demands.proofs.Answers.{among-left, answers-right, check-by-answers, table-number}
+use Rattle.demands.proofs.Answers.{among-left, answers-right, check-by-answers, among-other}
 
 -- the refusals of the words of a table of n nodes
 abbrev wordRefusals : ℕ → Refusals
@@ -60,11 +60,7 @@ module _ (text sink : List ℕ) where
   checked-short : (n : ℕ) (c : Outcome (Unit {0})) (p : ℕ) → Answers (wordRefusals n) c
       → writeChecked text sink c .answer ≡ refused 16 p → p ≡ length text
   checked-short n (answered u) p a h = text-short (ltb (length sink) (length text)) 16 p h
-  checked-short n (refused k i) p a h =
-      let l : (21 ≤ k) × (k ≤ 25) =
-      table-number n k i (among-left (wordRefusals n) ((23, Below n) ∷ (24, Below n) ∷ (25, Below n) ∷ []) k i a) in
-      let e : k ≡ 16 = same-number k i 16 p h .0 in
-      absurd (omega arith)
+  checked-short n (refused k i) p a h = absurd (among-other 16 (wordRefusals n) k i (omega arith) a (same-number k i 16 p h .0))
 
   checked-refused : (c : Outcome (Unit {0})) (k p : ℕ) → writeChecked text sink c .answer ≡ refused k p
       → writeChecked text sink c .sink ≡ sink

@@ -1,31 +1,39 @@
 -- The demands on the engine, each as one statement over the definitions that the contracts of the exported functions cite.
 -- N is a number of variables, n of nodes, w a table's words; a place is a number of bytes, a node or a needed length.
 use Prim.Native.Nat.{ℕ, pred, _+_, _-_, _*_, _^_, _<_, _≤_}
-use mathlib.Core.Bool.{Bool, true, false, _&&_, not}
+use mathlib.Core.Bool.{Bool, true, false, _&&_, _||_, not}
 use mathlib.Core.List.{List·Memᴰ, List, [], _∷_, _++_}
-use lib.Dec.{T}
+use lib.Dec.{T, ltb, leb}
 use lib.ListN.{getD, length, take, drop, replicate}
 use mathlib.Core.Path.{_≡_}
 use mathlib.Core.Logic.{_⊎_, _≢_}
 use Rattle.masks.specs.Numbers.{count, Lowest}
+use Rattle.steps.specs.Steps.{maxSteps, noStep}
+use Rattle.steps.specs.declared.Step.{Step}
 use Rattle.table.specs.Layout.{wordsFor}
 use Rattle.table.specs.Node.{nodeAt, maxNodes}
 use Rattle.table.specs.Outcome.{accepted, Outcome, answered, refused}
 use Rattle.table.specs.Words.{checkWords}
-use Rattle.text.specs.AssignmentLine.{maskOf, readAssignment}
 use Rattle.text.specs.Faults.{Between, treeFaults}
 use Rattle.text.specs.Limits.{maxBytes}
-use Rattle.text.specs.LineMeaning.{LineReadsAs}
 use Rattle.text.specs.Meaning.{Bytes, ReadsAs}
 use Rattle.text.specs.Read.{answers, readText}
 use Rattle.text.specs.Syntax.{print, Tree}
 use Rattle.text.specs.Write.{tableText, writeTable}
+use Rattle.text_assignment.specs.Answers.{answeredMask}
+use Rattle.text_assignment.specs.Line.{readAssignment}
+use Rattle.text_assignment.specs.Meaning.{LineReadsAs}
+use Rattle.text_script.specs.Meaning.{ScriptReadsAs}
+use Rattle.text_script.specs.Script.{readSteps, readScript}
 use Rattle.terms.specs.Completions.{unknowns}
-use Rattle.terms.specs.Lists.{Rising}
+use Rattle.terms.specs.Lists.{keep, Rising}
 use Rattle.terms.specs.Order.{before}
-use Rattle.terms.specs.Prime.{Implicant, Prime}
-use Rattle.terms.specs.Term.{has, variables, agrees, Agrees, IsTerm, termsOf}
+use Rattle.terms.specs.Prime.{primes, Implicant, Prime}
+use Rattle.terms.specs.Term.{has, variables, agrees, conflict, Agrees, IsTerm, termsOf}
 use Rattle.terms.specs.declared.Term.{Term}
+use Rattle.states.specs.States.{stateAt}
+use Rattle.states.specs.declared.State.{State}
+use Rattle.states.specs.declared.StateJoin.{StateJoin}
 use Rattle.measurements.specs.Measurement.{entries, variableAt, lowAt, highAt, thresholdAt, says, wrong, Measurements}
 use Rattle.circuits.specs.Check.{check}
 use Rattle.circuits.specs.Function.{function, nodeValue}
@@ -33,6 +41,8 @@ use Rattle.queries.specs.Queries.{circuit, evaluation, modelCount, implicantTes
 use Rattle.partial.specs.Partial.{partialEvaluation}
 use Rattle.lists.specs.Capacity.{maxCapacity}
 use Rattle.listing.specs.Listing.{lent, Lent, nodePrimes, listTable, viewed, ListOut}
+use Rattle.walk.specs.Known.{actState}
+use Rattle.walk.specs.Walk.{walkTable, walkLent, WalkLent}
 
 -- ---- places: the place p is c, is below c, is at most c, is above c
 abbrev pub At : ℕ → ℕ → Type 0
@@ -70,6 +80,10 @@ readRefusals l =
 abbrev pub lineRefusals : ℕ → Refusals
 lineRefusals l = (21, At 0) ∷ (51, UpTo l) ∷ (52, Below l) ∷ []
 
+-- of a loading script of l bytes
+abbrev pub scriptRefusals : ℕ → Refusals
+scriptRefusals l = (21, At 0) ∷ (54, UpTo l) ∷ (55, Below l) ∷ []
+
 -- of a table of n nodes
 abbrev pub tableRefusals : ℕ → Refusals
 tableRefusals n = (21, At 0) ∷ (22, Below n) ∷ (23, Below n) ∷ (24, Below n) ∷ (25, Below n) ∷ []
@@ -82,6 +96,24 @@ writeRefusals n l = (21, At 0) ∷ (22, Below n) ∷ (16, Above l) ∷ []
 abbrev pub WrongAt : ℕ → Term → Measurements → ℕ → Type 0
 WrongAt N t m i = Lowest (wrong N (variables t) m) i × (i ≤ N)
 
+-- of the steps es of a walk over N variables: the lowest wrong one, however long the list is
+abbrev pub wrongAct : List Step → ℕ → Bool
+wrongAct es i = leb maxSteps i || ltb 2 (getD es i noStep .act)
+
+abbrev pub wrongVariable : ℕ → List Step → ℕ → Bool
+wrongVariable N es i = leb N (getD es i noStep .variable)
+
+pub record WrongStep (N : ℕ) (es : List Step) (i : ℕ) : Type 0 where
+  pub inside : (i < length es) × (i ≤ maxSteps)
+  pub lowest : Lowest (λ j. wrongAct es j || wrongVariable N es j) i
+
+-- 54 for its act, or as the step after the 256th; 55 for its variable only where it is not 54
+abbrev pub ActAt : ℕ → List Step → ℕ → Type 0
+ActAt N es i = WrongStep N es i × T (wrongAct es i)
+
+abbrev pub VariableAt : ℕ → List Step → ℕ → Type 0
+VariableAt N es i = WrongStep N es i × T (not (wrongAct es i))
+
 -- every operation answers and leaves the same for the table w′ as for w
 pub record SameAnswers (N n : ℕ) (w w′ : List ℕ) : Type 0 where
   pub check : check N n w′ ≡ check N n w
@@ -93,6 +125,7 @@ pub record SameAnswers (N n : ℕ) (w w′ : List ℕ) : Type 0 where
   pub reduce : (s : ℕ) → reduction N n w′ s ≡ reduction N n w s
   pub partial : (t : Term) (m : Measurements) → partialEvaluation N n w′ t m ≡ partialEvaluation N n w t m
   pub list : (c : Bool) (R : ℕ) (b : Lent) → listTable c N n w′ R b ≡ listTable c N n w R b
+  pub walk : (R : ℕ) (es : List Step) (b : WalkLent) → walkTable N n w′ R es b ≡ walkTable N n w R es b
 
 -- ---- demand 1: every operation takes any input and does its work or refuses by a number of the scope, at a place that the
 -- scope allows; what a refusal leaves in each lent buffer is fixed
@@ -150,7 +183,30 @@ pub record AnyInput : Type 0 where
   -- reading the assignment line s
   pub line : (s : List ℕ) (N : ℕ) → Answers (lineRefusals (length s)) (readAssignment s N)
   -- a refusal comes with the mask 0
-  pub line-refused : (s : List ℕ) (N k p : ℕ) → readAssignment s N ≡ refused k p → maskOf (readAssignment s N) ≡ 0
+  pub line-refused : (s : List ℕ) (N k p : ℕ) → readAssignment s N ≡ refused k p → answeredMask (readAssignment s N) ≡ 0
+  -- reading the loading script s into a list of steps
+  pub script : (s : List ℕ) (N : ℕ) (list : List Step) → Answers (scriptRefusals (length s)) (readScript s N list .answer)
+  -- a refusal leaves the list as it was, and a reading of k steps what stands past them
+  pub script-refused : (s : List ℕ) (N : ℕ) (list : List Step) (k p : ℕ) → readScript s N list .answer ≡ refused k p
+      → readScript s N list .steps ≡ list
+  pub script-past : (s : List ℕ) (N : ℕ) (list : List Step) (k : ℕ) → readScript s N list .answer ≡ answered k
+      → drop k (readScript s N list .steps) ≡ drop k list
+  -- walking the steps es with the capacity R and the buffers b
+  pub walk : (N n : ℕ) (w : List ℕ) (R : ℕ) (es : List Step) (b : WalkLent)
+      → Answers (tableRefusals n ++ ((54, ActAt N es) ∷ (55, VariableAt N es) ∷ (41, At 0) ∷ (42, At 0) ∷ []))
+      (walkTable N n w R es b .answer)
+  -- a refusal other than 42 leaves every buffer as it was; 42 leaves the listing's as the listing does, and those of the steps
+  pub walk-refused : (N n : ℕ) (w : List ℕ) (R : ℕ) (es : List Step) (b : WalkLent) (k p : ℕ)
+      → walkTable N n w R es b .answer ≡ refused k p → k ≢ 42 → walkTable N n w R es b .after ≡ b
+  pub walk-lack : (N n : ℕ) (w : List ℕ) (R : ℕ) (es : List Step) (b : WalkLent) (p : ℕ) → walkTable N n w R es b .answer ≡ refused 42 p
+      → (listTable true N n w R (b .rows) .answer ≡ refused 42 p)
+      × (walkTable N n w R es b .after ≡ walkLent (listTable true N n w R (b .rows) .after) (b .statuses) (b .compatibles))
+  -- a walk that is done leaves the entries past the steps as they were
+  pub walk-past : (N n : ℕ) (w : List ℕ) (R : ℕ) (es : List Step) (b : WalkLent) (v : ℕ × ℕ)
+      → let a : WalkLent = walkTable N n w R es b .after in
+      walkTable N n w R es b .answer ≡ answered v
+      → (drop (length es) (a .statuses) ≡ drop (length es) (b .statuses))
+      × (drop (length es) (a .compatibles) ≡ drop (length es) (b .compatibles))
   -- words past those of the nodes are not read: any v may stand there
   pub unread : (N n : ℕ) (w v : List ℕ) → wordsFor n ≤ length w → SameAnswers N n w (take (wordsFor n) w ++ v)
 
@@ -192,6 +248,46 @@ abbrev pub JudgedWith : ℕ → (ℕ → Bool) → Term → Measurements → Out
 JudgedWith N f t m (answered r) = (u : Term) × Adds N t m u × Judged N f u (r .0) (r .1 .0) (r .1 .1)
 JudgedWith N f t m (refused k p) = ⊥
 
+-- what the steps es say of the variable x: what the last of them that names it says, or nothing
+abbrev pub SaysLast : List Step → ℕ → State → Type 0
+SaysLast es x s =
+    ((i : ℕ) × (i < length es) × (getD es i noStep .variable ≡ x) × (actState (getD es i noStep .act) ≡ s)
+    × ((j : ℕ) → i < j → j < length es → getD es j noStep .variable ≢ x))
+    ⊎ ((s ≡ State.Absent) × ((j : ℕ) → j < length es → getD es j noStep .variable ≢ x))
+
+-- u is the term over N variables that has each of them as the steps say last
+pub record KnownAfter (N : ℕ) (es : List Step) (u : Term) : Type 0 where
+  pub isTerm : IsTerm N u
+  pub each : (x : ℕ) → x < N → (s : State) × (stateAt u x ≡ StateJoin.Is s) × SaysLast es x s
+
+-- the entries of a step: v is the status of what is known, u, and c the number of prime implicants of f that do not conflict with it
+pub record StepJudged (N : ℕ) (f : ℕ → Bool) (u : Term) (v c : ℕ) : Type 0 where
+  pub satisfied : (v ≡ 2 → Implicant N f u) × (Implicant N f u → v ≡ 2)
+  pub falsified : (v ≡ 0 → Implicant N (λ s. not (f s)) u) × (Implicant N (λ s. not (f s)) u → v ≡ 0)
+  pub range : v ≤ 2
+  pub number : c ≡ length (keep (λ t. not (conflict t u)) (primes N f))
+  -- forbidden exactly if every prime implicant conflicts with it
+  pub none : (v ≡ 0 → c ≡ 0) × (c ≡ 0 → v ≡ 0)
+
+-- the step named: from it on every status is 2, and from no earlier one; or there is no such step
+abbrev pub AllowedFrom : List ℕ → ℕ → Type 0
+AllowedFrom l k = (j : ℕ) → k ≤ j → j < length l → getD l j 0 ≡ 2
+
+abbrev pub Names : List ℕ → ℕ × ℕ → Type 0
+Names l v =
+    ((v .0 ≡ 1) × (v .1 < length l) × AllowedFrom l (v .1) × ((i : ℕ) → i < v .1 → AllowedFrom l i → ⊥))
+    ⊎ ((v .0 ≡ 0) × (v .1 ≡ 0) × ((i : ℕ) → i < length l → AllowedFrom l i → ⊥))
+
+-- a walk of an accepted circuit that is done
+pub record Walked (N n : ℕ) (w : List ℕ) (R : ℕ) (es : List Step) (b : WalkLent) (v : ℕ × ℕ) : Type 0 where
+  -- the listing is done first
+  pub listed : listTable true N n w R (b .rows) .answer ≡ answered tt
+  pub rows : walkTable N n w R es b .after .rows ≡ listTable true N n w R (b .rows) .after
+  -- each prefix is judged by itself
+  pub steps : (k : ℕ) → k < length es → let a : WalkLent = walkTable N n w R es b .after in
+      (u : Term) × KnownAfter N (take (k + 1) es) u × StepJudged N (circuit n w) u (getD (a .statuses) k 0) (getD (a .compatibles) k 0)
+  pub names : Names (take (length es) (walkTable N n w R es b .after .statuses)) v
+
 -- an accepted circuit
 pub record Means (N n : ℕ) (w : List ℕ) : Type 0 where
   -- a node's function is what its kind makes of its variable and of its children's functions
@@ -208,6 +304,11 @@ pub record Means (N n : ℕ) (w : List ℕ) : Type 0 where
   -- a partial assignment with measurements of which none is wrong
   pub partial : (t : Term) (m : Measurements) → IsTerm N t → ((i : ℕ) → i < entries m → T (not (wrong N (variables t) m i)))
       → JudgedWith N (circuit n w) t m (partialEvaluation N n w t m)
+  -- a loading script, walked: done where no step is wrong, the steps' buffers have an entry each, and the listing is done
+  pub walks : (R : ℕ) (es : List Step) (b : WalkLent) → ((i : ℕ) → i < length es → T (not (wrongAct es i || wrongVariable N es i)))
+      → length es ≤ length (b .statuses) → length es ≤ length (b .compatibles) → listTable true N n w R (b .rows) .answer ≡ answered tt
+      → (v : ℕ × ℕ) × (walkTable N n w R es b .answer ≡ answered v)
+  pub walk : (R : ℕ) (es : List Step) (b : WalkLent) (v : ℕ × ℕ) → walkTable N n w R es b .answer ≡ answered v → Walked N n w R es b v
 
 pub record OneMeaning : Type 0 where
   -- the questions to every accepted circuit
@@ -220,6 +321,9 @@ pub record OneMeaning : Type 0 where
   -- the same of an assignment line
   pub line : (s : List ℕ) (N : ℕ) → Bytes s → LineReadsAs s N (readAssignment s N)
   pub line-only : (s : List ℕ) (N : ℕ) → Bytes s → (a : Outcome ℕ) → LineReadsAs s N a → readAssignment s N ≡ a
+  -- and of a loading script, read into a list of l records
+  pub script : (s : List ℕ) (N l : ℕ) → Bytes s → ScriptReadsAs s N l (readSteps s N l)
+  pub script-only : (s : List ℕ) (N l : ℕ) → Bytes s → (a : Outcome (List Step)) → ScriptReadsAs s N l a → readSteps s N l ≡ a
   -- every table with neither 21 nor 22 is written where the sink is long enough
   pub writes : (N n : ℕ) (w sink : List ℕ) → checkWords N n w ≡ accepted → length (tableText N n w) ≤ length sink
       → writeTable N n w sink .answer ≡ answered (length (tableText N n w))

@@ -217,7 +217,7 @@ fn is_enough(
 }
 
 // Lists the prime implicants of an accepted circuit's nodes, or of their negations: 41 and 42.
-fn list_accepted(
+pub fn list_accepted(
     positives: &mut [u64],
     negatives: &mut [u64],
     counts: &mut [u32],

@@ -1,2 +1,3 @@
+mod BoundaryWalk
 mod Placed
 mod Settled

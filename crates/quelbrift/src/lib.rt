@@ -4,9 +4,9 @@ ghost use mathlib.Core.Path.{_≡_};
 ghost use mathlib.Core.Bool.{true, false};
 ghost use lib.ListN.{length};
 ghost use Rattle.table.specs.Outcome.{answered};
-ghost use Rattle.text.specs.AssignmentLine.{readAssignment};
 ghost use Rattle.text.specs.Read.{readText};
 ghost use Rattle.text.specs.Write.{writeTable};
+ghost use Rattle.text_assignment.specs.Line.{readAssignment};
 ghost use Rattle.measurements.specs.Measurement.{measurements};
 ghost use Rattle.circuits.specs.Check.{check};
 ghost use Rattle.queries.specs.Answers.{tested};
@@ -17,6 +17,7 @@ ghost use Rattle.listing.specs.Listing.{lent, listTable, listed, viewed};
 ghost use Rattle.quelbrift.specs.Boundary.{version, answerOf, nothing, number, numbers, triple, truth, masks, placed};
 
 mod answer;
+pub mod scripts;
 
 use answer::Answer;
 use answer::done;
@@ -32,13 +33,13 @@ use queries::Reduction;
 use queries::Tested;
 use table::Checked;
 use terms::Term;
-use text::answer::AssignmentReading;
 use text::answer::Reading;
 use text::answer::fault_number;
+use text_assignment::assignment::AssignmentReading;
 use text_writer::writer::Written;
 
 // The version of these functions and their answers: QUELBRIFT_VERSION in the header.
-const VERSION: u32 = 4;
+const VERSION: u32 = 5;
 
 #[no_mangle]
 pub extern "C" fn quelbrift_version() -> u32

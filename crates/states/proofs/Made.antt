@@ -15,7 +15,7 @@ use Rattle.masks.proofs.Tests.{along, below-suc, decide, is-true, same-test}
 use Rattle.terms.specs.Term.{empty, mask, has, isTerm, IsTerm}
 use Rattle.terms.specs.declared.Term.{Term}
 use Rattle.terms.proofs.Terms.{MasksFit, masks-ext, empty-isTerm, isTerm-e, isTerm-i}
-use Rattle.states.specs.Joining.{withState, withSaid, made}
+use Rattle.states.specs.Joining.{withState, ofStates, withSaid, made}
 use Rattle.states.specs.States.{isConflict, stateBy, stateAt}
 use Rattle.states.specs.declared.State.{State}
 use Rattle.states.specs.declared.StateJoin.{StateJoin}
@@ -112,6 +112,32 @@ module _ (f : ℕ → StateJoin) where
               subst (λ (y : ℕ). stateAt (withState (m .term) n s) y ≡ f y) (sym d) (with-here (m .term) n s ∙ sym e))
               (λ (k : x < n). there x k (λ d. omega arith))
               (below-suc k)
+
+-- ---- made of states alone, so that there is no conflict
+module _ (f : ℕ → State) where
+  abbrev said : ℕ → StateJoin
+  said x = StateJoin.Is (f x)
+
+  made-states : (n : ℕ) → made n said ≡ TermJoin.Is (ofStates n f)
+  unfolding made ofStates
+  made-states zero = refl
+  made-states (suc n) = ap (λ (m : TermJoin). withSaid m n (said n)) (made-states n)
+
+  module _ (N : ℕ) where
+    states-made : MadeOf said N N
+    states-made = made-of said N N (le-refl N) (λ x l. (f x, refl))
+
+    states-term : states-made .term ≡ ofStates N f
+    states-term =
+        let e : TermJoin.Is (states-made .term) ≡ TermJoin.Is (ofStates N f) = sym (states-made .is) ∙ made-states N in
+        cc
+
+    pub states-isTerm : IsTerm N (ofStates N f)
+    states-isTerm = subst (IsTerm N) states-term (states-made .isTerm)
+
+    -- the states are read again
+    pub states-read : (x : ℕ) → x < N → stateAt (ofStates N f) x ≡ StateJoin.Is (f x)
+    states-read x l = subst (λ (t : Term). stateAt t x ≡ StateJoin.Is (f x)) states-term (states-made .reads x l)
 
 -- ---- the states of any two masks
 -- they are a term exactly if no variable reads as a conflict

@@ -15,6 +15,11 @@ withState t x State.Absent = without t x
 withState t x State.Negative = extend (without t x) x false
 withState t x State.Positive = extend (without t x) x true
 
+-- the term that has each variable x below n in the state f x
+unfoldable pub ofStates : ℕ → (ℕ → State) → Term
+ofStates zero f = empty
+ofStates (suc n) f = withState (ofStates n f) n (f n)
+
 -- a term with what is said of x, where neither is a conflict
 abbrev pub withSaid : TermJoin → ℕ → StateJoin → TermJoin
 withSaid (TermJoin.Is t) x (StateJoin.Is s) = TermJoin.Is (withState t x s)

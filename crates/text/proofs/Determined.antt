@@ -9,12 +9,13 @@ use lib.ListN.{length, replicate}
 use Rattle.masks.proofs.Tests.{same?}
 use Rattle.table.specs.Outcome.{Outcome, answered, refused}
 use Rattle.text.specs.Faults.{treeFaults}
+use Rattle.text.specs.Language.{FaultAt}
 use Rattle.text.specs.Limits.{maxBytes}
 use Rattle.text.specs.Meaning.{Bytes, FirstWrong, FirstFault, RefusedAs, ReadsAs}
 use Rattle.text.specs.Read.{answers, roomOf, readText, ReadOut}
 use Rattle.text.specs.Syntax.{print, Grammatical}
 use Rattle.text.proofs.Meaning.{short, long, read-complete, read-sound}
-use Rattle.text.proofs.Readers.{same-number, Wrong, Fault, wrong-first, fault-first, wrong-only, fault-only}
+use Rattle.text.proofs.Readers.{same-number, wrong-first, fault-first, wrong-only, fault-only}
 use Rattle.text.proofs.Refusals.{text-reader, fault-number, refused-words}
 use Rattle.text.proofs.Texts.{readBody}
 
@@ -22,21 +23,14 @@ use Rattle.text.proofs.Texts.{readBody}
 module _ (s : List ℕ) (m : ℕ) (l : length s ≤ maxBytes) where
   wrong-at : (p : ℕ) → readBody s m .answer ≡ refused 11 p → FirstWrong s m p
   wrong-at p h =
-      let w : Wrong Grammatical print (treeFaults (roomOf m)) s p = wrong-first (text-reader m) s p h in
-      record { short = l; inside = w .inside; before = w .before; here = w .here; none = w .none; lowest = w .lowest }
+      record { short = l; at = wrong-first (text-reader m) s p h }
 
   fault-at : (k p : ℕ) → readBody s m .answer ≡ refused k p → k ≢ 11 → FirstFault s m k p
   fault-at k p h n =
-      let w : Fault Grammatical print (treeFaults (roomOf m)) s k p = fault-first (text-reader m) s k p h n in
+      let w : FaultAt Grammatical print (treeFaults (roomOf m)) s k p = fault-first (text-reader m) s k p h n in
       let (t, rest, gr, e) = w .viable in
       let (fs, c) = w .first t rest gr e in
-      record {
-        short = l;
-        number = fault-number (roomOf m) t k p fs c;
-        inside = w .inside;
-        viable = w .viable;
-        first = w .first;
-      }
+      record { short = l; number = fault-number (roomOf m) t k p fs c; at = w }
 
   refused-as : (k p : ℕ) → readBody s m .answer ≡ refused k p → RefusedAs s m k p
   refused-as k p h = by (same? k 11)
@@ -79,11 +73,5 @@ reading-only s m b (refused k p) words (w, h) = by h ∙ ap (λ (z : List ℕ). 
 
     by : RefusedAs s m k p → readText s m ≡ answers (refused k p) (replicate m 0)
     by (inl (e, o)) = long s m (o .long) ∙ λ d. answers (refused (sym e d) (sym (o .place) d)) (replicate m 0)
-    by (inr (inl (e, o))) =
-        let w : Wrong Grammatical print (treeFaults (roomOf m)) s p =
-        record { inside = o .inside; before = o .before; here = o .here; none = o .none; lowest = o .lowest } in
-        body (o .short) (wrong-only (text-reader m) s p b w ∙ ap (λ (z : ℕ). refused z p) (sym e))
-    by (inr (inr o)) =
-        let w : Fault Grammatical print (treeFaults (roomOf m)) s k p =
-        record { inside = o .inside; viable = o .viable; first = o .first } in
-        body (o .short) (fault-only (text-reader m) s k p w)
+    by (inr (inl (e, o))) = body (o .short) (wrong-only (text-reader m) s p b (o .at) ∙ ap (λ (z : ℕ). refused z p) (sym e))
+    by (inr (inr o)) = body (o .short) (fault-only (text-reader m) s k p (o .at))

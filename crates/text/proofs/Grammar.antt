@@ -21,8 +21,12 @@ use Rattle.text.proofs.Spelling.{restText, literal-flat, line-flat, dec
 use Rattle.text.proofs.Texts.{header-flat}
 use Rattle.text.proofs.Words.{LineMay}
 
+-- the digits of a number that may stand in a text
+abbrev pub IsDecimal : ℕ → List ℕ → Type 0
+IsDecimal v x = (v < 10000) × (decimal v ≡ x)
+
 abbrev pub IsNumber : List ℕ → Type 0
-IsNumber x = (v : ℕ) × (v < 10000) × (decimal v ≡ x)
+IsNumber x = (v : ℕ) × IsDecimal v x
 
 -- a form that may stand in a role
 abbrev pub IsForm : Role → List ℕ → Type 0
@@ -37,33 +41,34 @@ abbrev pub IsLines : List ℕ → Type 0
 IsLines x = (fs : List Form) × (fs ≢ []) × GrammaticalLines fs × (printLines fs ≡ x)
 
 -- ---- numbers by their digits
-pub one-digit : (a : ℕ) → a < 10 → IsNumber ((48 + a) ∷ [])
-one-digit a l = (a, omega arith, decimal-1 a l)
+pub one-digit : (a : ℕ) → a < 10 → IsDecimal a ((48 + a) ∷ [])
+one-digit a l = (omega arith, decimal-1 a l)
 
-pub two-digits : (a b : ℕ) → 0 < a → a < 10 → b < 10 → IsNumber ((48 + a) ∷ (48 + b) ∷ [])
+pub two-digits : (a b : ℕ) → 0 < a → a < 10 → b < 10 → IsDecimal (10 * a + b) ((48 + a) ∷ (48 + b) ∷ [])
 two-digits a b z la lb =
     let v : ℕ = 10 * a + b in
     let e : v / 10 % 10 ≡ a = omega arith in
     let f : v % 10 ≡ b = omega arith in
-    (v, omega arith, decimal-2 v (omega arith) (omega arith) ∙ ap₂ (λ (x y : ℕ). (48 + x) ∷ (48 + y) ∷ []) e f)
+    (omega arith, decimal-2 v (omega arith) (omega arith) ∙ ap₂ (λ (x y : ℕ). (48 + x) ∷ (48 + y) ∷ []) e f)
 
-pub three-digits : (a b c : ℕ) → 0 < a → a < 10 → b < 10 → c < 10 → IsNumber ((48 + a) ∷ (48 + b) ∷ (48 + c) ∷ [])
+pub three-digits : (a b c : ℕ) → 0 < a → a < 10 → b < 10 → c < 10
+    → IsDecimal (10 * (10 * a + b) + c) ((48 + a) ∷ (48 + b) ∷ (48 + c) ∷ [])
 three-digits a b c z la lb lc =
-    let v : ℕ = 100 * a + 10 * b + c in
+    let v : ℕ = 10 * (10 * a + b) + c in
     let e : v / 100 % 10 ≡ a = omega arith in
     let f : v / 10 % 10 ≡ b = omega arith in
     let g : v % 10 ≡ c = omega arith in
-    (v, omega arith, decimal-3 v (omega arith) (omega arith) ∙ λ i. (48 + e i) ∷ (48 + f i) ∷ (48 + g i) ∷ [])
+    (omega arith, decimal-3 v (omega arith) (omega arith) ∙ λ i. (48 + e i) ∷ (48 + f i) ∷ (48 + g i) ∷ [])
 
 pub four-digits : (a b c d : ℕ) → 0 < a → a < 10 → b < 10 → c < 10 → d < 10
-    → IsNumber ((48 + a) ∷ (48 + b) ∷ (48 + c) ∷ (48 + d) ∷ [])
+    → IsDecimal (10 * (10 * (10 * a + b) + c) + d) ((48 + a) ∷ (48 + b) ∷ (48 + c) ∷ (48 + d) ∷ [])
 four-digits a b c d z la lb lc ld =
-    let v : ℕ = 1000 * a + 100 * b + 10 * c + d in
+    let v : ℕ = 10 * (10 * (10 * a + b) + c) + d in
     let e : v / 1000 % 10 ≡ a = omega arith in
     let f : v / 100 % 10 ≡ b = omega arith in
     let g : v / 10 % 10 ≡ c = omega arith in
     let h : v % 10 ≡ d = omega arith in
-    (v, omega arith, decimal-4 v (omega arith) ∙ λ i. (48 + e i) ∷ (48 + f i) ∷ (48 + g i) ∷ (48 + h i) ∷ [])
+    (omega arith, decimal-4 v (omega arith) ∙ λ i. (48 + e i) ∷ (48 + f i) ∷ (48 + g i) ∷ (48 + h i) ∷ [])
 
 -- ---- forms
 module _ (role : Role) where
@@ -71,7 +76,7 @@ module _ (role : Role) where
   constant-form v = (constantForm v, tt, own-stands role (constantForm v) tt, refl)
 
   pub literal-form : (v : Bool) (x : List ℕ) → IsNumber x → IsForm role (40 ∷ (spelling (cond v Yes No) ++ (x ++ (41 ∷ []))))
-  literal-form v x (n, l, e) = (
+  literal-form v x (n, (l, e)) = (
     literalForm v n,
     l,
     own-stands role (literalForm v n) tt,
@@ -89,11 +94,11 @@ module _ (role : Role) where
 
   -- `pick`, by the text of its number
   pub decision-form : (v : ℕ) (x y : List ℕ) → IsNumber x → IsRest (Decision v) 0 y → IsForm role (40 ∷ (spelling Pick ++ (x ++ y)))
-  decision-form v x y (n, l, e) r =
+  decision-form v x y (n, (l, e)) r =
       subst (IsForm role) (decision-flat n y ∙ ap (λ (z : List ℕ). 40 ∷ (spelling Pick ++ (z ++ y))) e) (inner-form (Decision n) y l r)
 
 pub line-form : (role : Role) (x : List ℕ) → LineMay role → IsNumber x → IsForm role (40 ∷ (spelling Line ++ (x ++ (41 ∷ []))))
-line-form role x l (n, m, e) = (
+line-form role x l (n, (m, e)) = (
   lineForm n,
   m,
   stands role l,
@@ -167,7 +172,7 @@ next-line x y (f, b, k, p) (fs, n, g, q) = (
 )
 
 pub whole-text : (x y : List ℕ) → IsNumber x → IsLines y → IsText (ascii "(circuit " ++ (x ++ (41 ∷ 10 ∷ y)))
-whole-text x y (n, l, e) (fs, s, g, p) =
+whole-text x y (n, (l, e)) (fs, s, g, p) =
     let t : Tree = record { variables = n; lines = fs } in (
       t,
       record { header = l; some = s; each = g },

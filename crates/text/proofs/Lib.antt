@@ -27,6 +27,3 @@ pub mod Determined
 pub mod WrittenLines
 pub mod RoundTrip
 pub mod Ordered
-pub mod AssignmentLines
-pub mod AssignmentMeaning
-pub mod LineDetermined

@@ -1,5 +1,5 @@
 -- Any reader that reads each printed tree as its first fault, and whose refusals depend only on the bytes up to their place: where its
--- refusals stand, and that no other answer fits these statements. Cited for circuit text and for assignment lines.
+-- refusals stand, and that no other answer fits these statements. Cited for circuit text and for texts of lines.
 use Prim.Native.Nat.{ℕ, zero, suc, _+_, _-_, _<_, _≤_}
 use mathlib.Core.Path.{_≡_, refl, sym, ap, subst, _∙_}
 use mathlib.Core.Bool.{Bool, cond}
@@ -13,6 +13,7 @@ use lib.Seq.{getD-append-add, length-take-le, getD-take, take-add}
 use borrow.Author.Tests.{eq-eqb, ne-eqb}
 use Rattle.masks.proofs.Tests.{same?}
 use Rattle.table.specs.Outcome.{Outcome, answered, refused}
+use Rattle.text.specs.Language.{IsOut, Begins, WrongAt, FaultAt}
 use Rattle.text.specs.Meaning.{Bytes}
 use Rattle.text.specs.Read.{byteAt}
 use Rattle.text.proofs.Locality.{SameTo}
@@ -21,6 +22,9 @@ use Rattle.text.proofs.Spans.{past-end}
 -- ---- two answers that are the same
 pub value-not : {A : Type 0} (v : A) (k p : ℕ) → _≡_ {A = Outcome A} (answered v) (refused k p) → ⊥
 value-not v k p e = let z : _≡_ {A = ℕ} 0 1 = cc in omega arith
+
+pub same-value : {A : Type 0} (v w : A) → _≡_ {A = Outcome A} (answered v) (answered w) → v ≡ w
+same-value v w e = cc
 
 pub same-number : {A : Type 0} (e p e′ p′ : ℕ) → _≡_ {A = Outcome A} (refused e p) (refused e′ p′) → (e ≡ e′) × (p ≡ p′)
 same-number e p e′ p′ h = (cc, cc)
@@ -71,12 +75,8 @@ printed-inside s q k t rest bytes l e = by (decLe q (length s))
 
 -- ---- a language: the trees that are Ok, printed, with their faults in the order of their bytes
 module _ {X : Type 0} (Ok : X → Type 0) (out : X → List ℕ) where
-  -- some text of the language begins with these bytes
-  abbrev pub Begins : List ℕ → Type 0
-  Begins s = (t : X) × (rest : List ℕ) × Ok t × (s ++ rest ≡ out t)
-
   -- a beginning of a beginning is one
-  begins-less : (s : List ℕ) (p q : ℕ) → p ≤ q → Begins (take q s) → Begins (take p s)
+  begins-less : (s : List ℕ) (p q : ℕ) → p ≤ q → Begins Ok out (take q s) → Begins Ok out (take p s)
   begins-less s p q l (t, rest, ok, e) =
       let more : List ℕ = take (q - p) (drop p s) in
       let n : q ≡ p + (q - p) = omega arith in
@@ -87,37 +87,22 @@ module _ {X : Type 0} (Ok : X → Type 0) (out : X → List ℕ) where
 abbrev pub upTo : ℕ → ℕ → ℕ → ℕ
 upTo shape k p = cond (eqb k shape) p (p + 1)
 
-at-shape : (shape p : ℕ) → upTo shape shape p ≡ p
+pub at-shape : (shape p : ℕ) → upTo shape shape p ≡ p
 at-shape shape p = ap (λ (z : Bool). cond z p (p + 1)) (eq-eqb shape shape refl)
 
-at-other : (shape k p : ℕ) → k ≢ shape → upTo shape k p ≡ p + 1
+pub at-other : (shape k p : ℕ) → k ≢ shape → upTo shape k p ≡ p + 1
 at-other shape k p n = ap (λ (z : Bool). cond z p (p + 1)) (ne-eqb k shape n)
-
--- no text of the language goes on with byte p, or s ends there and is none; and no fault stands before p
-pub record Wrong {X : Type 0} (Ok : X → Type 0) (out : X → List ℕ) (faults : X → List (ℕ × ℕ)) (s : List ℕ) (p : ℕ) : Type 0 where
-  pub inside : p ≤ length s
-  pub before : Begins Ok out (take p s)
-  pub here : p < length s → Begins Ok out (take (p + 1) s) → ⊥
-  pub none : (t : X) × Ok t × (out t ≡ s) → ⊥
-  pub lowest : (t : X) (rest : List ℕ) → Ok t → take p s ++ rest ≡ out t
-      → (k q : ℕ) (fs : List (ℕ × ℕ)) → faults t ≡ (k, q) ∷ fs → p ≤ q
-
--- every text of the language that begins with the bytes up to p has its first fault there, and there is one
-pub record Fault {X : Type 0} (Ok : X → Type 0) (out : X → List ℕ) (faults : X → List (ℕ × ℕ)) (s : List ℕ) (k p : ℕ) : Type 0 where
-  pub inside : p < length s
-  pub viable : Begins Ok out (take (p + 1) s)
-  pub first : (t : X) (rest : List ℕ) → Ok t → take (p + 1) s ++ rest ≡ out t → (fs : List (ℕ × ℕ)) × (faults t ≡ (k, p) ∷ fs)
 
 -- what is known of a reader; `shape` is its number for a byte of a wrong shape
 pub record Reader {A X : Type 0} (Ok : X → Type 0) (out : X → List ℕ) (faults : X → List (ℕ × ℕ)) (shape : ℕ)
     (read : List ℕ → Outcome A) : Type 0 where
-  pub bytes : (t : X) → Bytes (out t)
-  pub other : (t : X) (k p : ℕ) (fs : List (ℕ × ℕ)) → faults t ≡ (k, p) ∷ fs → k ≢ shape
+  pub bytes : (t : X) → Ok t → Bytes (out t)
+  pub other : (t : X) (k p : ℕ) (fs : List (ℕ × ℕ)) → Ok t → faults t ≡ (k, p) ∷ fs → k ≢ shape
   pub clean : (t : X) → Ok t → faults t ≡ [] → (v : A) × (read (out t) ≡ answered v)
   pub faulty : (t : X) (k p : ℕ) (fs : List (ℕ × ℕ)) → Ok t → faults t ≡ (k, p) ∷ fs → read (out t) ≡ refused k p
   pub local : (s s′ : List ℕ) (k p : ℕ) → read s ≡ refused k p → SameTo s s′ p → read s′ ≡ refused k p
   pub viable : (s : List ℕ) (k p : ℕ) → read s ≡ refused k p → Begins Ok out (take (upTo shape k p) s)
-  pub whole : (s : List ℕ) (v : A) → Bytes s → read s ≡ answered v → (t : X) × Ok t × (out t ≡ s)
+  pub whole : (s : List ℕ) (v : A) → Bytes s → read s ≡ answered v → IsOut Ok out s
 
 module _ {A X : Type 0} {Ok : X → Type 0} {out : X → List ℕ} {faults : X → List (ℕ × ℕ)} {shape : ℕ} {read : List ℕ → Outcome A}
     (r : Reader Ok out faults shape read) where
@@ -133,14 +118,14 @@ module _ {A X : Type 0} {Ok : X → Type 0} {out : X → List ℕ} {faults : X �
 
   -- no text of the language is of a wrong shape
   never-shape : (t : X) (p : ℕ) → Ok t → read (out t) ≡ refused shape p → ⊥
-  never-shape t p ok h = let (fs, e) = tree-refused t shape p ok h in r .other t shape p fs e refl
+  never-shape t p ok h = let (fs, e) = tree-refused t shape p ok h in r .other t shape p fs ok e refl
 
   -- the place of a refusal lies in the text, or at its end
   place-inside : (s : List ℕ) (k p : ℕ) → read s ≡ refused k p → upTo shape k p ≤ length s
   place-inside s k p h =
       let q : ℕ = upTo shape k p in
       let (t, rest, ok, e) = r .viable (marked s q) k p (r .local s (marked s q) k p h (marked-same s q p)) in
-      printed-inside s q q (out t) rest (r .bytes t) (omega arith) e
+      printed-inside s q q (out t) rest (r .bytes t ok) (omega arith) e
 
   -- a refusal before place p is the same for s and for every text that begins with the bytes of s before p
   module _ (s : List ℕ) (p : ℕ) (l : p ≤ length s) (t : X) (rest : List ℕ) (e : take p s ++ rest ≡ out t) (k q : ℕ) (d : q < p) where
@@ -150,7 +135,7 @@ module _ {A X : Type 0} {Ok : X → Type 0} {out : X → List ℕ} {faults : X �
     back : read (out t) ≡ refused k q → read s ≡ refused k q
     back h = r .local (out t) s k q h (λ i j. sym (begins-same s (out t) rest p l e i (omega arith)))
 
-  pub wrong-first : (s : List ℕ) (p : ℕ) → read s ≡ refused shape p → Wrong Ok out faults s p
+  pub wrong-first : (s : List ℕ) (p : ℕ) → read s ≡ refused shape p → WrongAt Ok out faults s p
   wrong-first s p h =
       let l : p ≤ length s = omega (arith, place-inside s shape p h, at-shape shape p) in
       record {
@@ -166,9 +151,9 @@ module _ {A X : Type 0} {Ok : X → Type 0} {out : X → List ℕ} {faults : X �
       low t rest ok e k q fs c l (no d) = omega arith
       low t rest ok e k q fs c l (yes d) =
           let g : read s ≡ refused k q = back s p l t rest e k q d (r .faulty t k q fs ok c) in
-          absurd (r .other t k q fs c (same-number k q shape p (sym g ∙ h) .0))
+          absurd (r .other t k q fs ok c (same-number k q shape p (sym g ∙ h) .0))
 
-  pub fault-first : (s : List ℕ) (k p : ℕ) → read s ≡ refused k p → k ≢ shape → Fault Ok out faults s k p
+  pub fault-first : (s : List ℕ) (k p : ℕ) → read s ≡ refused k p → k ≢ shape → FaultAt Ok out faults s k p
   fault-first s k p h n =
       let l : p < length s = omega (arith, place-inside s k p h, at-other shape k p n) in
       record {
@@ -178,13 +163,13 @@ module _ {A X : Type 0} {Ok : X → Type 0} {out : X → List ℕ} {faults : X �
       }
 
   -- where a wrong byte or a fault stands first, the reader says so
-  pub fault-only : (s : List ℕ) (k p : ℕ) → Fault Ok out faults s k p → read s ≡ refused k p
+  pub fault-only : (s : List ℕ) (k p : ℕ) → FaultAt Ok out faults s k p → read s ≡ refused k p
   fault-only s k p w =
       let (t, rest, ok, e) = w .viable in
       let (fs, c) = w .first t rest ok e in
       back s (p + 1) (omega (arith, w .inside)) t rest e k p (omega arith) (r .faulty t k p fs ok c)
 
-  pub wrong-only : (s : List ℕ) (p : ℕ) → Bytes s → Wrong Ok out faults s p → read s ≡ refused shape p
+  pub wrong-only : (s : List ℕ) (p : ℕ) → Bytes s → WrongAt Ok out faults s p → read s ≡ refused shape p
   wrong-only s p b w = by (read s) refl
     where
       -- the bytes of s are viable up to no place past p

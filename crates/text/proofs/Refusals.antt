@@ -92,8 +92,8 @@ fault-number room t k p fs c = numbered-first OfTree (treeFaults room t) fs k p 
 pub text-reader : (m : ℕ) → Reader Grammatical print (treeFaults (roomOf m)) 11 (λ s. readBody s m .answer)
 text-reader m =
     record {
-      bytes = print-bytes;
-      other = λ t k p fs c e. let l : 12 ≤ k = fault-number (roomOf m) t k p fs c .0 in absurd (omega arith);
+      bytes = λ t gr. print-bytes t;
+      other = λ t k p fs gr c e. let l : 12 ≤ k = fault-number (roomOf m) t k p fs c .0 in absurd (omega arith);
       clean = λ t gr c. ((t .variables, compile t .nodes), ap (λ (z : ReadOut). z .answer) (reads t gr [] c));
       faulty = λ t k p fs gr c. reads t gr ((k, p) ∷ fs) c;
       local = λ s s′ k p h a. body-local s m k p h .1 s′ a;

@@ -15,6 +15,7 @@ use Rattle.masks.proofs.Tests.{same?}
 use Rattle.text.specs.Answers.{faultNumber}
 use Rattle.text.specs.Meaning.{Bytes}
 use Rattle.text.specs.Read.{byteAt, digitAt, digitsAt, numberAt, matchAt, rangedOf, rangedAt}
+use Rattle.text.specs.Syntax.{decimal}
 use Rattle.text.specs.declared.answer.Fault.{Fault}
 use Rattle.text.specs.declared.answer.Fault.the-variants.{Shape}
 use Rattle.text.specs.declared.head.InRange.{InRange}
@@ -23,7 +24,7 @@ use Rattle.text.specs.declared.head.Matched.{Matched}
 use Rattle.text.specs.declared.head.Matched.the-variants.{Past, Differs}
 use Rattle.text.specs.declared.number.Numeral.{Numeral}
 use Rattle.text.specs.declared.number.Numeral.the-variants.{Value, Missing}
-use Rattle.text.proofs.Grammar.{IsNumber, one-digit, two-digits, three-digits, four-digits}
+use Rattle.text.proofs.Grammar.{IsDecimal, IsNumber, one-digit, two-digits, three-digits, four-digits}
 use Rattle.text.proofs.Laws.{inside}
 
 -- the place up to which the bytes are viable: before 11, and past the byte of any other fault
@@ -91,21 +92,24 @@ module _ (s : List ℕ) where
 
   abbrev pub NumberSaid : ℕ → Numeral → Type 0
   NumberSaid at Missing = Unit {0}
-  NumberSaid at (Value v p) = (x : List ℕ) × IsNumber x × Span at p x
+  NumberSaid at (Value v p) = (v < 10000) × Span at p (decimal v)
 
-  digits-step : (k start at v : ℕ) (x : List ℕ) → IsNumber x → Span start at x
-      → ((d u : ℕ) → d < 10 → Span start (at + 1) (x ++ ((48 + d) ∷ [])) → NumberSaid start (digitsAt k s (at + 1) u))
+  digits-done : (start at v : ℕ) (x : List ℕ) → IsDecimal v x → Span start at x → NumberSaid start (Value v at)
+  digits-done start at v x (l, e) sx = (l, sx ∙ ap (λ (z : List ℕ). take start s ++ z) (sym e))
+
+  digits-step : (k start at v : ℕ) (x : List ℕ) → IsDecimal v x → Span start at x
+      → ((d : ℕ) → d < 10 → Span start (at + 1) (x ++ ((48 + d) ∷ [])) → NumberSaid start (digitsAt k s (at + 1) (10 * v + d)))
       → NumberSaid start (digitsAt (suc k) s at v)
   unfolding digitsAt
   digits-step k start at v x nx sx more = by (same? (digitAt s at) 10)
     where
       by : (digitAt s at ≡ 10) ⊎ (digitAt s at ≢ 10)
           → NumberSaid start (cond (eqb (digitAt s at) 10) (Value v at) (digitsAt k s (at + 1) (10 * v + digitAt s at)))
-      by (inl e) = rw (eq-eqb (digitAt s at) 10 e) (x, nx, sx)
+      by (inl e) = rw (eq-eqb (digitAt s at) 10 e) (digits-done start at v x nx sx)
       by (inr n) =
           let d = digit-said at (digitAt s at) refl n in
           rw (ne-eqb (digitAt s at) 10 n)
-          (more (digitAt s at) (10 * v + digitAt s at) (d .0)
+          (more (digitAt s at) (d .0)
           (join start at (at + 1) x ((48 + digitAt s at) ∷ []) sx (one-byte at (48 + digitAt s at) (omega (arith, d .0)) (d .1))))
 
   pub number-said : (at : ℕ) → NumberSaid at (numberAt s at)
@@ -120,18 +124,22 @@ module _ (s : List ℕ) where
       by (inl e) z = rw (eq-eqb a 10 e) tt
       by (inr n) (inl z) =
           let d = digit-said at a refl n in
-          rw (ne-eqb a 10 n, eq-eqb a 0 z) (48 ∷ [], one-digit 0 (omega arith), one-byte at 48 (omega arith) (omega (arith, d .1, z)))
+          rw (ne-eqb a 10 n, eq-eqb a 0 z)
+          (digits-done at (at + 1) 0 (48 ∷ []) (one-digit 0 (omega arith)) (one-byte at 48 (omega arith) (omega (arith, d .1, z))))
       by (inr n) (inr z) =
           let d = digit-said at a refl n in
           let la : a < 10 = d .0 in
           let za : 0 < a = omega arith in
           rw (ne-eqb a 10 n, ne-eqb a 0 z)
           (digits-step 2 at (at + 1) a ((48 + a) ∷ []) (one-digit a la) (one-byte at (48 + a) (omega arith) (d .1))
-          (λ b u lb sb.
-          digits-step 1 at (at + 1 + 1) u ((48 + a) ∷ (48 + b) ∷ []) (two-digits a b za la lb) sb
-          (λ c v lc sc.
-          digits-step 0 at (at + 1 + 1 + 1) v ((48 + a) ∷ (48 + b) ∷ (48 + c) ∷ []) (three-digits a b c za la lb lc) sc
-          (λ e w le se. ((48 + a) ∷ (48 + b) ∷ (48 + c) ∷ (48 + e) ∷ [], four-digits a b c e za la lb lc le, se)))))
+          (λ b lb sb.
+          digits-step 1 at (at + 1 + 1) (10 * a + b) ((48 + a) ∷ (48 + b) ∷ []) (two-digits a b za la lb) sb
+          (λ c lc sc.
+          digits-step 0 at (at + 1 + 1 + 1) (10 * (10 * a + b) + c) ((48 + a) ∷ (48 + b) ∷ (48 + c) ∷ [])
+          (three-digits a b c za la lb lc) sc
+          (λ e le se.
+          digits-done at (at + 1 + 1 + 1 + 1) (10 * (10 * (10 * a + b) + c) + e) ((48 + a) ∷ (48 + b) ∷ (48 + c) ∷ (48 + e) ∷ [])
+          (four-digits a b c e za la lb lc le) se))))
 
   abbrev pub RangedSaid : ℕ → ℕ → InRange → Type 0
   RangedSaid end at (Inside v p) = (x : List ℕ) × IsNumber x × Span at p x × (byteAt s p ≡ end)
@@ -166,5 +174,5 @@ module _ (s : List ℕ) where
   ranged-said at low high end why le nf = by (numberAt s at) (number-said at)
     where
       by : (y : Numeral) → NumberSaid at y → RangedSaid end at (rangedOf s at low high end why y)
-      by Missing h = ([], 48 ∷ end ∷ [], 48 ∷ [], one-digit 0 (omega arith), refl, nothing at)
-      by (Value n p) (x, nx, sx) = ranged-value at low high end why n p x le nf nx sx
+      by Missing h = ([], 48 ∷ end ∷ [], 48 ∷ [], (0, one-digit 0 (omega arith)), refl, nothing at)
+      by (Value n p) (l, sp) = ranged-value at low high end why n p (decimal n) le nf (n, (l, refl)) sp

@@ -10,11 +10,12 @@ use borrow.Author.Tests.{eq-eqb, ne-eqb}
 use Rattle.masks.proofs.Tests.{same?}
 use Rattle.table.specs.Outcome.{Outcome, answered, refused}
 use Rattle.text.specs.Ascii.{ascii}
+use Rattle.text.specs.Language.{Begins}
 use Rattle.text.specs.Limits.{maxLines}
 use Rattle.text.specs.Meaning.{Bytes, IsText}
 use Rattle.text.specs.Read.{byteAt, matchAt, rangedAt, setting, formAt, lineEnd, linesAt, headerThen, headerOf, headerAt, roomOf}
 use Rattle.text.specs.Read.{settled, bodyOf, Stepped, ReadOut}
-use Rattle.text.specs.Syntax.{Viable}
+use Rattle.text.specs.Syntax.{print, Grammatical}
 use Rattle.text.specs.declared.answer.Fault.the-variants.{Range}
 use Rattle.text.specs.declared.answer.Step.{Step}
 use Rattle.text.specs.declared.answer.Step.the-variants.{Stop, Made}
@@ -36,10 +37,10 @@ module _ (s : List ℕ) where
   Open at = (y : List ℕ) → IsLines y → IsText (take at s ++ y)
 
   abbrev pub Said : Outcome (ℕ × ℕ) → Type 0
-  Said (refused k p) = Viable (take (viableTo k p) s)
+  Said (refused k p) = Begins Grammatical print (take (viableTo k p) s)
   Said (answered v) = Bytes s → IsText s
 
-  viable : (p : ℕ) (x t : List ℕ) → take p s ≡ x → IsText (x ++ t) → Viable (take p s)
+  viable : (p : ℕ) (x t : List ℕ) → take p s ≡ x → IsText (x ++ t) → Begins Grammatical print (take p s)
   viable p x t e (tree, gr, i) = (tree, t, gr, ap (λ (z : List ℕ). z ++ t) e ∙ sym i)
 
   end-by : (N at : ℕ) (X : ℕ → ℕ → ℕ → List ℕ → ReadOut) → Open at → (n room : ℕ)
@@ -92,7 +93,7 @@ module _ (s : List ℕ) where
   one-line = last-line trueText (true-text OwnForm)
 
   abbrev HeaderSaid : InRange → Type 0
-  HeaderSaid (Unfit f p) = Viable (take (viableAt f p) s)
+  HeaderSaid (Unfit f p) = Begins Grammatical print (take (viableAt f p) s)
   HeaderSaid (Inside v p) = Open p
 
   abbrev headWord : List ℕ
@@ -141,7 +142,7 @@ module _ (s : List ℕ) where
           let rest : List ℕ = 48 ∷ 41 ∷ 10 ∷ oneLine in
           viable p x (t ++ rest) sp
           (subst IsText (ap (λ (z : List ℕ). z ++ rest) e ∙ append-assoc x t rest)
-          (whole-text (48 ∷ []) oneLine (one-digit 0 (omega arith)) one-line))
+          (whole-text (48 ∷ []) oneLine (0, one-digit 0 (omega arith)) one-line))
 
   settled-said : (m : ℕ) (w : List ℕ) (x : Outcome (ℕ × ℕ)) → Said x → Said (settled m w x .answer)
   settled-said m w (refused k p) h = h

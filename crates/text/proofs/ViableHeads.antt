@@ -46,11 +46,11 @@ goes-on : (role : Role) (w : Word) → May role w → IsForm role (40 ∷ (spell
 unfolding printForm going-on
 goes-on role False m = constant-form role false
 goes-on role True m = constant-form role true
-goes-on role Yes m = literal-form role true (48 ∷ []) (one-digit 0 (omega arith))
-goes-on role No m = literal-form role false (48 ∷ []) (one-digit 0 (omega arith))
-goes-on role Pick m = decision-form role 0 (48 ∷ []) twoForms (one-digit 0 (omega arith)) (two-forms (Decision 0))
+goes-on role Yes m = literal-form role true (48 ∷ []) (0, one-digit 0 (omega arith))
+goes-on role No m = literal-form role false (48 ∷ []) (0, one-digit 0 (omega arith))
+goes-on role Pick m = decision-form role 0 (48 ∷ []) twoForms (0, one-digit 0 (omega arith)) (two-forms (Decision 0))
 goes-on role Both m = inner-form role Conjunction twoForms tt (two-forms Conjunction)
-goes-on role LineWord m = line-form role (48 ∷ []) m (one-digit 0 (omega arith))
+goes-on role LineWord m = line-form role (48 ∷ []) m (0, one-digit 0 (omega arith))
 
 word-bytes : (w : Word) → Bytes (spelling w)
 word-bytes False = omega arith

@@ -1,8 +1,6 @@
 -- The answers of the operations on text, by the scope's numbers.
 use Prim.Native.Nat.{ℕ}
 use Rattle.table.specs.Outcome.{Outcome, answered, refused}
-use Rattle.text.specs.declared.answer.AssignmentReading.{AssignmentReading}
-use Rattle.text.specs.declared.answer.AssignmentReading.the-variants.{Assignment, Sizes, LineShape, LineOrder}
 use Rattle.text.specs.declared.answer.Fault.{Fault}
 use Rattle.text.specs.declared.answer.Fault.the-variants.{Length, Shape, Range, Reference, Depth, Nodes}
 use Rattle.text.specs.declared.answer.Reading.{Reading}
@@ -20,10 +18,3 @@ faultNumber Nodes = 15
 abbrev pub readingOf : Reading → Outcome (ℕ × ℕ)
 readingOf (Circuit N n) = answered (N, n)
 readingOf (Refused f p) = refused (faultNumber f) p
-
--- the mask of the variables that are true
-abbrev pub assignmentOf : AssignmentReading → Outcome ℕ
-assignmentOf (Assignment m) = answered m
-assignmentOf Sizes = refused 21 0
-assignmentOf (LineShape p) = refused 51 p
-assignmentOf (LineOrder p) = refused 52 p

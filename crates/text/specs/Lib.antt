@@ -7,7 +7,5 @@ pub mod Read
 pub mod Places
 pub mod Faults
 pub mod Write
-pub mod AssignmentLine
-pub mod AssignmentSyntax
+pub mod Language
 pub mod Meaning
-pub mod LineMeaning

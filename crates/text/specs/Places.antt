@@ -7,8 +7,6 @@ use Rattle.table.specs.Layout.{wordsFor}
 use Rattle.table.specs.Node.{maxNodes}
 use Rattle.text.specs.Answers.{readingOf}
 use Rattle.text.specs.Read.{Stepped, ReadOut}
-use Rattle.text.specs.declared.answer.Member.{Member}
-use Rattle.text.specs.declared.answer.Member.the-variants.{Close, Next, Wrong, Unordered}
 use Rattle.text.specs.declared.answer.Reading.{Reading}
 use Rattle.text.specs.declared.answer.Step.{Step}
 use Rattle.text.specs.declared.answer.Step.the-variants.{Stop, Made}
@@ -53,12 +51,6 @@ OpeningRuns s at earlier (Line k p) = (at ≤ p) × (p < length s) × (k < earli
 abbrev pub StepRuns : List ℕ → ℕ → Step → Type 0
 StepRuns s at (Stop f p) = Unit
 StepRuns s at (Made p m a) = (at < p) × (p ≤ length s)
-
-abbrev pub MemberRuns : List ℕ → ℕ → ℕ → Member → Type 0
-MemberRuns s at N (Close p) = p ≤ length s
-MemberRuns s at N (Next v p) = (v < N) × (p ≤ length s)
-MemberRuns s at N (Wrong p) = Unit
-MemberRuns s at N (Unordered p) = Unit
 
 -- what the form reader needs of what it is lent
 pub record Fit (words lines : List ℕ) (g : Limits) : Type 0 where

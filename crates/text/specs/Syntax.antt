@@ -118,10 +118,6 @@ pub record Grammatical (t : Tree) : Type 0 where
   pub some : t .lines ≢ []
   pub each : GrammaticalLines (t .lines)
 
--- some text of the grammar begins with these bytes
-abbrev pub Viable : List ℕ → Type 0
-Viable s = (t : Tree) × (rest : List ℕ) × Grammatical t × (s ++ rest ≡ print t)
-
 -- ---- the nodes of a tree
 -- what a form or a list of lines makes: the words of its nodes, the number of all nodes after it, and the node that it means
 pub record Compiled : Type 0 where

@@ -39,32 +39,9 @@ pub enum Reading {
     Refused(Fault, usize),
 }
 
-pub enum AssignmentReading {
-    // the mask of the variables that are true
-    Assignment(u64),
-    // 21: a number of variables outside its range
-    Sizes,
-    // 51: wrong shape, at this place
-    LineShape(usize),
-    // 52: a variable out of range or out of order, at this place
-    LineOrder(usize),
-}
-
 // After a form was read.
 pub enum Step {
     Stop(Fault, usize),
     // the place past the form, the number of nodes now, and the node that the form means
     Made(usize, u32, u32),
-}
-
-// What stands next in an assignment line.
-pub enum Member {
-    // the closing bracket; the place past it
-    Close(usize),
-    // a variable, and the place past it
-    Next(u32, usize),
-    // 51 and its place
-    Wrong(usize),
-    // 52 and its place
-    Unordered(usize),
 }

@@ -3,13 +3,12 @@ ghost use mathlib.Core.Path.{_≡_};
 ghost use Prim.Native.Nat.{_+_, _≤_, _<_};
 ghost use lib.ListN.{length};
 ghost use Rattle.table.specs.Node.{maxVariables};
-ghost use Rattle.text.specs.Answers.{assignmentOf};
-ghost use Rattle.text.specs.AssignmentLine.{memberAt, closedAt, membersAt, readAssignment};
-ghost use Rattle.text.specs.Places.{MemberRuns};
+ghost use Rattle.lines.specs.Reading.{mapped, readFrom};
+ghost use Rattle.text_assignment.specs.Answers.{assignmentOf};
+ghost use Rattle.text_assignment.specs.Line.{members as membersState, lineFormat, maskIn, readAssignment};
+ghost use Rattle.text_assignment.specs.Members.{memberAt, closedAt, MemberRuns};
 use masks::with_bit;
 use table::MAX_VARIABLES;
-use text::answer::AssignmentReading;
-use text::answer::Member;
 use text::head::Matched;
 use text::head::match_at;
 use text::number::CLOSE;
@@ -19,6 +18,29 @@ use text::number::Numeral;
 use text::number::SPACE;
 use text::number::byte_at;
 use text::number::number;
+
+pub enum AssignmentReading {
+    // the mask of the variables that are true
+    Assignment(u64),
+    // 21: a number of variables outside its range
+    Sizes,
+    // 51: wrong shape, at this place
+    LineShape(usize),
+    // 52: a variable out of range or out of order, at this place
+    LineOrder(usize),
+}
+
+// What stands next in an assignment line.
+pub enum Member {
+    // the closing bracket; the place past it
+    Close(usize),
+    // a variable, and the place past it
+    Next(u32, usize),
+    // 51 and its place
+    Wrong(usize),
+    // 52 and its place
+    Unordered(usize),
+}
 
 // A space and a variable from low up to below `variables`, or the closing bracket.
 fn next_member(s: &[u8], variables: u32, low: u32, at: usize) -> Member
@@ -64,13 +86,12 @@ fn closed(s: &[u8], at: usize, mask: u64) -> AssignmentReading
 // The variables and the end of the line.
 fn members(s: &[u8], variables: u32, start: usize) -> AssignmentReading
     requires { ⌜ (start ≤ length (now s)) × (variables ≤ maxVariables) ⌝ }
-    ensures { λ r. ⌜ assignmentOf r ≡ membersAt (length (now (s .entry))) (now (s .entry)) variables 0 start 0 ⌝ }
+    ensures { λ r. ⌜ assignmentOf r ≡ mapped maskIn (readFrom (lineFormat variables) (now (s .entry)) (membersState 0 0) start) ⌝ }
 {
     let mut at = start;
     let mut low: u32 = 0;
     let mut mask: u64 = 0;
-    let mut k: usize = 0;
-    while k < s.len() {
+    loop {
         match next_member(s, variables, low, at) {
             Member::Close(p) => {
                 return closed(s, p, mask);
@@ -87,9 +108,7 @@ fn members(s: &[u8], variables: u32, start: usize) -> AssignmentReading
                 at = p;
             }
         }
-        k = k + 1;
     }
-    AssignmentReading::LineShape(at)
 }
 
 // Reads the line of an assignment of so many variables.

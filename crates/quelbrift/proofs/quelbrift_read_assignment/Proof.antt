@@ -1,6 +1,6 @@
 -- `quelbrift::quelbrift_read_assignment` meets its contract.
 use borrow.Author.Needs.{needs}
-use Rattle.text.specs.Answers.{assignmentOf}
+use Rattle.text_assignment.specs.Answers.{assignmentOf}
 use Rattle.quelbrift.specs.Boundary.{number}
 use Rattle.quelbrift.proofs.Settled.{settled}
 use Rattle.quelbrift.proofs.quelbrift_read_assignment.Statement.{statement}

@@ -6,7 +6,7 @@ use mathlib.Core.Path.{_≡_}
 use borrow.Author.Needs.{needs}
 use borrow.Author.Tests.{eq-eqb, ne-eqb}
 use Rattle.table.specs.Outcome.{answered, refused}
-use Rattle.text.specs.AssignmentLine.{closedAt}
+use Rattle.text_assignment.specs.Members.{closedAt}
 use Rattle.text.specs.Read.{end, byteAt}
 use Rattle.text_assignment.proofs.assignment.closed.Statement.{statement}
 use Rattle.text_assignment.proofs.assignment.closed.Tie as tie

@@ -9,10 +9,10 @@ use lib.Dec.{eqb, ltb, leb, ltb→lt}
 use borrow.Author.Needs.{needs}
 use borrow.Author.Tests.{eq-eqb, ne-eqb}
 use Rattle.masks.proofs.Tests.{and-r, along}
-use Rattle.text.specs.AssignmentLine.{memberAt}
+use Rattle.text_assignment.specs.Members.{memberAt}
 use Rattle.text.specs.Places.{NumeralRuns}
 use Rattle.text.specs.Read.{byteAt, numberAt}
-use Rattle.text.specs.declared.answer.Member.the-variants.{Close, Next, Wrong, Unordered}
+use Rattle.text_assignment.specs.declared.assignment.Member.the-variants.{Close, Next, Wrong, Unordered}
 use Rattle.text.specs.declared.number.Numeral.the-variants.{Value, Missing}
 use Rattle.text.proofs.Laws.{inside}
 use Rattle.text_assignment.proofs.assignment.next_member.Statement.{statement}
@@ -102,7 +102,7 @@ returns-3 c =
       next _ _ _ _ _ (at-byte-at .byte-at .ensures) (at-if1 .if1 .left) (at-if2 .if2 .left) _ _ _
           (sym (at-v .v .given .1) ∙ at-number .number .ensures .0)
           (at-byte-at2 .byte-at2 .ensures) (c .before .if3 .taken) (c .if4 .taken),
-      (below _ _ _ (c .if4 .taken), n .1),
+      (below _ _ _ (c .if4 .taken), omega (arith, n .0), n .1),
     )
 
 returns-4 : tie.Need-returns-4

@@ -1,39 +1,20 @@
 -- `text_assignment::assignment::read_assignment` meets its contract.
-use Prim.Native.Nat.{ℕ, _<_, _≤_}
-use mathlib.Core.List.{List}
+use Prim.Native.Nat.{ℕ}
 use mathlib.Core.Path.{_≡_, sym, subst, _∙_}
 use native.Mathlib.Omega.{arith}
 use borrow.Author.Needs.{needs}
-use borrow.Author.Tests.{le-leb, lt-leb}
-use Rattle.table.specs.Outcome.{refused}
-use Rattle.text.specs.Ascii.{ascii}
-use Rattle.text.specs.AssignmentLine.{stowThen, readAssignment}
 use Rattle.text.specs.Places.{MatchedRuns}
-use Rattle.text.specs.Read.{matchAt}
-use Rattle.text.specs.declared.head.Matched.{Matched}
+use Rattle.text_assignment.proofs.Members.{line-starts, too-few, too-many}
 use Rattle.text_assignment.proofs.assignment.read_assignment.Statement.{statement}
 use Rattle.text_assignment.proofs.assignment.read_assignment.Tie as tie
 
-module _ (s : List ℕ) (N : ℕ) where
-  few : N < 1 → refused 21 0 ≡ readAssignment s N
-  unfolding readAssignment
-  few h = rw (lt-leb 1 N h)
-
-  many : 1 ≤ N → 40 < N → refused 21 0 ≡ readAssignment s N
-  unfolding readAssignment
-  many l h = rw (le-leb 1 N l, lt-leb N 40 h)
-
-  matched : 1 ≤ N → N ≤ 40 → (x : Matched) → x ≡ matchAt s 0 (ascii "(stow") → stowThen s N x ≡ readAssignment s N
-  unfolding readAssignment
-  matched l h x e = rw (le-leb 1 N l, le-leb N 40 h, ← e)
-
 returns : tie.Need-returns
 returns c =
-    few _ _ (c .if1 .taken)
+    too-few _ _ (c .if1 .taken)
 
 returns-2 : tie.Need-returns-2
 returns-2 c =
-    many _ _ (c .before .if1 .left) (c .if2 .taken)
+    too-many _ _ (c .before .if1 .left) (c .if2 .taken)
 
 slice-aggregate-match-at : tie.Need-slice-aggregate-match-at
 slice-aggregate-match-at c = search needs
@@ -59,7 +40,7 @@ returns-3 c =
     let at-match = c .before .before .before in
     let at-if2 = at-match .before .before in
     let at-if1 = at-if2 .before in
-    matched _ _ (at-if1 .if1 .left) (at-if2 .if2 .left) _ (sym (c .before .p .given .1) ∙ at-match .match-at .ensures .0)
+    line-starts _ _ (at-if1 .if1 .left) (at-if2 .if2 .left) _ (sym (c .before .p .given .1) ∙ at-match .match-at .ensures .0)
 
 returns-4 : tie.Need-returns-4
 returns-4 c =
@@ -67,7 +48,7 @@ returns-4 c =
     let at-match = at-p2 .before .before in
     let at-if2 = at-match .before .before in
     let at-if1 = at-if2 .before in
-    c .members .ensures ∙ matched _ _ (at-if1 .if1 .left) (at-if2 .if2 .left) _
+    c .members .ensures ∙ line-starts _ _ (at-if1 .if1 .left) (at-if2 .if2 .left) _
     (sym (at-p2 .p2 .given .1) ∙ at-match .match-at .ensures .0)
 
 pub read-assignment-spec : {M : Type 1} → statement M

@@ -1,0 +1,5 @@
+pub mod WellFormed
+pub mod Printed
+pub mod Local
+pub mod Viable
+pub mod Lines

@@ -1,0 +1,3 @@
+// The reading of loading scripts.
+pub mod line;
+pub mod script;

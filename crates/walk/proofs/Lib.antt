@@ -1,0 +1,10 @@
+pub mod Each
+pub mod Steps
+pub mod Known
+pub mod Compatible
+pub mod Entries
+pub mod Settled
+pub mod Listed
+pub mod Answers
+pub mod Forbidden
+pub mod Records

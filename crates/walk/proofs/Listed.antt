@@ -1,0 +1,107 @@
+-- A listing that is done: the part of the last node holds the prime implicants of the circuit.
+use Prim.Native.Nat.{ℕ, suc, pred, _+_, _*_, _<_, _≤_}
+use mathlib.Core.Path.{_≡_, refl, sym, ap, _∙_}
+use mathlib.Core.Bool.{Bool, true, false}
+use mathlib.Core.List.{List}
+use native.Mathlib.Nat.{le-trans, suc-mul}
+use native.Mathlib.Omega.{arith}
+use lib.ListN.{length, getD, take, drop}
+use borrow.Author.Tests.{ltb-false}
+use Rattle.masks.proofs.Tests.{along}
+use Rattle.table.specs.Outcome.{accepted, answered}
+use Rattle.terms.specs.Prime.{primes}
+use Rattle.terms.specs.declared.Term.{Term}
+use Rattle.circuits.specs.Check.{check}
+use Rattle.circuits.specs.Function.{signedFunction}
+use Rattle.circuits.proofs.Accepted.{accepted-e}
+use Rattle.circuits.proofs.Largest.{no-more}
+use Rattle.queries.specs.Queries.{circuit}
+use Rattle.insertion.specs.Filled.{bySign, masksOf}
+use Rattle.listing.specs.Listing.{suffices, exceeds, filled, listTable, ListResult, Lent, ListOut}
+use Rattle.listing.specs.declared.Listing.the-variants.{Listed}
+use Rattle.listing.proofs.Answers.{out-is}
+use Rattle.listing.proofs.Bounds.{nodes-some, enough, Enough}
+use Rattle.listing.proofs.Table.{Fit, masks-back, count-back}
+use Rattle.walk.specs.Ready.{planPrimes, StepsReady, WalkReady}
+use Rattle.walk.specs.declared.Plan.{Plan}
+
+-- the last of n parts
+pub last-part : (n R : ℕ) → 1 ≤ n → pred n * R + R ≡ n * R
+last-part n R h = let e : n ≡ suc (pred n) = omega arith in sym (ap (λ (m : ℕ). m * R) e ∙ suc-mul (pred n) R)
+
+module _ (N n : ℕ) (w : List ℕ) (R : ℕ) (b : Lent) (acc : check N n w ≡ accepted) where
+  abbrev F : ℕ → ℕ → Bool
+  F = signedFunction true w
+
+  abbrev out : ListOut
+  out = listTable true N n w R b
+
+  abbrev rows : List Term
+  rows = primes N (circuit n w)
+
+  module _ (done : out .answer ≡ answered tt) where
+    -- the buffers are large enough, and the prime implicants of the circuit are at most R
+    tests : (suffices n R b ≡ true) × (exceeds N n F R ≡ false)
+    tests = by (suffices n R b) (exceeds N n F R) refl refl
+      where
+        by : (x y : Bool) → suffices n R b ≡ x → exceeds N n F R ≡ y → (suffices n R b ≡ true) × (exceeds N n F R ≡ false)
+        by true true e d =
+            let o = ap (λ (z : ListOut). z .answer) (out-is true N n w R b acc true true e d) in
+            let z : _≡_ {A = ℕ} 0 1 = cc in
+            absurd (omega arith)
+        by true false e d = (e, d)
+        by false y e d =
+            let o = ap (λ (z : ListOut). z .answer) (out-is true N n w R b acc false y e d) in
+            let z : _≡_ {A = ℕ} 0 1 = cc in
+            absurd (omega arith)
+
+    is-filled : out ≡ filled N n F R b
+    is-filled = out-is true N n w R b acc true false (tests .0) (tests .1)
+
+    large : Enough n R b
+    large = enough n R b (along (sym (tests .0)) tt)
+
+    few : length rows ≤ R
+    unfolding exceeds
+    few = ltb-false R (length rows) (tests .1)
+
+    fit : Fit N F R n
+    fit i l = le-trans (no-more (accepted-e N n w acc) true i l) few
+
+    last : pred n < n
+    last = let h : 1 ≤ n = nodes-some (accepted-e N n w acc) in omega arith
+
+    count : getD (out .after .counts) (pred n) 0 ≡ length rows
+    count = ap (λ (z : ListOut). getD (z .after .counts) (pred n) 0) is-filled ∙ count-back N F R n (pred n) (drop n (b .counts)) last
+
+    masks : (s : Bool) → take (length rows) (drop (pred n * R) (bySign (out .after .positives) (out .after .negatives) s)) ≡ masksOf s rows
+    masks s =
+        ap (λ (z : ListOut). take (length rows) (drop (pred n * R) (bySign (z .after .positives) (z .after .negatives) s))) is-filled
+        ∙ by s
+      where
+        by : (s : Bool)
+            → take (length rows) (drop (pred n * R) (bySign (filled N n F R b .after .positives) (filled N n F R b .after .negatives) s))
+            ≡ masksOf s rows
+        by true = masks-back N F R n (pred n) true (drop (n * R) (b .positives)) fit last
+        by false = masks-back N F R n (pred n) false (drop (n * R) (b .negatives)) fit last
+
+-- what the walk needs of it
+pub walk-ready : (h : Plan) (w : List ℕ) (R k m : ℕ) (b b′ : Lent) → StepsReady h w k m
+    → ListResult true (h .variables) (h .nodes) w R b b′ Listed → length (b′ .positives) ≡ length (b .positives)
+    → length (b′ .negatives) ≡ length (b .negatives) → length (b′ .counts) ≡ length (b .counts) → WalkReady h w b′ R k m
+walk-ready h w R k m b b′ s r p q c =
+    let N : ℕ = h .variables in
+    let n : ℕ = h .nodes in
+    let acc : check N n w ≡ accepted = s .accepts in
+    let done = sym (r .answer) in
+    let l : Enough n R b = large N n w R b acc done in
+    let size : ℕ = length (planPrimes h w) in
+    record {
+      steps = s;
+      small = l .small;
+      few = few N n w R b acc done;
+      rows = (omega (arith, l .positives), omega (arith, l .negatives), omega (arith, l .counts));
+      count = ap (λ (z : List ℕ). getD z (pred n) 0) (r .counts) ∙ count N n w R b acc done;
+      positives = ap (λ (z : List ℕ). take size (drop (pred n * R) z)) (r .positives) ∙ masks N n w R b acc done true;
+      negatives = ap (λ (z : List ℕ). take size (drop (pred n * R) z)) (r .negatives) ∙ masks N n w R b acc done false;
+    }

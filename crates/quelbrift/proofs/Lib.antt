@@ -1,3 +1,5 @@
 mod BoundaryWalk
+mod Handed
 mod Placed
 mod Settled
+mod WalkedAnswer

@@ -13,10 +13,7 @@ use Rattle.steps.specs.Steps.{noStep, columns, stepsIn}
 use Rattle.steps.specs.declared.Step.{Step}
 use Rattle.steps.proofs.ColumnLaws.{steps-length, steps-again, steps-cut}
 use Rattle.circuits.specs.Check.{check}
-use Rattle.listing.specs.Listing.{lent}
-use Rattle.walk.specs.Answers.{walkedOutcome, WalkResult}
-use Rattle.walk.specs.Walk.{checkSteps, walkLent, walkChecked, walkTable, WalkLent, WalkOut}
-use Rattle.walk.specs.declared.Walked.{Walked}
+use Rattle.walk.specs.Walk.{checkSteps, walkChecked, walkTable, WalkLent}
 
 -- ---- the check of more than 256 steps: it refuses, by the first 256 and that there is one more
 module _ (N : ℕ) where
@@ -79,14 +76,3 @@ module _ (N n : ℕ) (w : List ℕ) (R : ℕ) (b : WalkLent) where
           let l : 256 < length es = omega arith in
           let k : length (stepsIn (columns es) (length es)) ≡ length es = steps-length (columns es) (length es) in
           long-walk (stepsIn (columns es) (length es)) es (omega arith) l (steps-cut es 256 (omega arith) (omega arith))
-
-  -- what the walk of the columns answers and leaves in the buffers
-  pub walk-records : (es : List Step) (b′ : WalkLent) (r : Walked) → WalkResult N n w R (stepsIn (columns es) (length es)) b b′ r
-      → (walkedOutcome r ≡ walkTable N n w R es b .answer) × (b′ ≡ walkTable N n w R es b .after)
-  walk-records es b′ r h =
-      let e = walk-columns es in (
-        h .answer ∙ ap (λ (o : WalkOut). o .answer) e,
-        (λ i.
-            walkLent (lent (h .positives i) (h .negatives i) (h .counts i)) (h .statuses i) (h .compatibles i))
-            ∙ ap (λ (o : WalkOut). o .after) e,
-      )

@@ -1,6 +1,7 @@
 //! The exported functions as `include/quelbrift.h` declares them.
 
 use crate::answer::Answer;
+use crate::Step;
 
 /// The two listings have one type.
 pub type Listing = unsafe extern "C" fn(*const u32, usize, u32, u32, u32, *mut u64, usize, *mut u64, usize, *mut u32, usize) -> Answer;
@@ -59,4 +60,24 @@ extern "C" {
     ) -> Answer;
     pub fn quelbrift_view(buffer: *const u64, length: usize, capacity: u32, node: u32, count: u32) -> Answer;
     pub fn quelbrift_read_assignment(line: *const u8, length: usize, variables: u32) -> Answer;
+    pub fn quelbrift_read_script(text: *const u8, length: usize, variables: u32, list: *mut Step, room: usize) -> Answer;
+    pub fn quelbrift_walk(
+        words: *const u32,
+        length: usize,
+        variables: u32,
+        nodes: u32,
+        capacity: u32,
+        list: *const Step,
+        list_length: usize,
+        positives: *mut u64,
+        positives_length: usize,
+        negatives: *mut u64,
+        negatives_length: usize,
+        counts: *mut u32,
+        counts_length: usize,
+        statuses: *mut u32,
+        statuses_length: usize,
+        compatibles: *mut u32,
+        compatibles_length: usize,
+    ) -> Answer;
 }

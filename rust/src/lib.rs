@@ -8,7 +8,7 @@ mod refusal;
 pub use refusal::{Place, Refusal};
 
 /// The version that this wrapper is written for; `version` gives the archive's.
-pub const VERSION: u32 = 4;
+pub const VERSION: u32 = 5;
 
 /// The limits of the header.
 pub const MAX_VARIABLES: u32 = 40;
@@ -19,6 +19,12 @@ pub const MAX_CAPACITY: u32 = 4096;
 pub const MAX_TEXT: usize = 110_000;
 pub const MAX_DEPTH: u32 = 16;
 pub const MAX_LINE: usize = 117;
+pub const MAX_STEPS: usize = 256;
+
+/// The acts of a step. Any other number is refused by 54.
+pub const SET_NO: u32 = 0;
+pub const SET_YES: u32 = 1;
+pub const DROP: u32 = 2;
 
 /// A row: the masks of the variables marked yes and of those marked no.
 #[derive(Clone, Copy, Debug, PartialEq, Eq, Hash)]
@@ -46,12 +52,42 @@ pub enum Verdict {
     Allowed = 2,
 }
 
+impl Verdict {
+    /// The verdict with that number: what a walk leaves in `statuses`.
+    pub fn of_number(number: u32) -> Option<Verdict> {
+        match number {
+            0 => Some(Verdict::Forbidden),
+            1 => Some(Verdict::Open),
+            2 => Some(Verdict::Allowed),
+            _ => None,
+        }
+    }
+}
+
 /// A verdict, and how many completions are allowed and how many are forbidden.
 #[derive(Clone, Copy, Debug, PartialEq, Eq)]
 pub struct Completions {
     pub verdict: Verdict,
     pub allowed: u64,
     pub forbidden: u64,
+}
+
+/// A step of a loading script, as the archive reads it: a fact, and what is done with it.
+#[repr(C)]
+#[derive(Clone, Copy, Debug, PartialEq, Eq, Hash)]
+pub struct Step {
+    pub variable: u32,
+    pub act: u32,
+}
+
+/// The lent buffers of a walk: those of a listing, and two with an entry a step, for the verdict and for how many clearances are left.
+#[derive(Debug)]
+pub struct WalkBuffers<'a> {
+    pub positives: &'a mut [u64],
+    pub negatives: &'a mut [u64],
+    pub counts: &'a mut [u32],
+    pub statuses: &'a mut [u32],
+    pub compatibles: &'a mut [u32],
 }
 
 /// The version of the archive; it fits this wrapper if it is `VERSION`.
@@ -115,12 +151,8 @@ pub fn evaluate_partial(
         )
     };
     let (first, allowed, forbidden) = answer.three_values()?;
-    let verdict = match first {
-        0 => Verdict::Forbidden,
-        1 => Verdict::Open,
-        2 => Verdict::Allowed,
-        _ => panic!("0, 1 or 2: {answer:?}"),
-    };
+    let verdict = u32::try_from(first).ok().and_then(Verdict::of_number);
+    let verdict = verdict.unwrap_or_else(|| panic!("0, 1 or 2: {answer:?}"));
     Ok(Completions { verdict, allowed, forbidden })
 }
 
@@ -204,4 +236,42 @@ pub fn view(buffer: &[u64], capacity: u32, node: u32, count: u32) -> &[u64] {
 /// Reads a stow line: the mask of the facts that are yes.
 pub fn read_assignment(line: &[u8], variables: u32) -> Result<u64, Refusal> {
     unsafe { exported::quelbrift_read_assignment(line.as_ptr(), line.len(), variables) }.value()
+}
+
+/// Reads a loading script into the list: the number of steps.
+pub fn read_script(text: &[u8], variables: u32, list: &mut [Step]) -> Result<usize, Refusal> {
+    let answer = unsafe { exported::quelbrift_read_script(text.as_ptr(), text.len(), variables, list.as_mut_ptr(), list.len()) };
+    Ok(answer.value()? as usize)
+}
+
+/// Walks a loading script: the first step from which on every verdict is allowed, or none.
+pub fn walk(table: Table, capacity: u32, steps: &[Step], buffers: WalkBuffers) -> Result<Option<usize>, Refusal> {
+    let Table { words, variables, nodes } = table;
+    let WalkBuffers { positives, negatives, counts, statuses, compatibles } = buffers;
+    let answer = unsafe {
+        exported::quelbrift_walk(
+            words.as_ptr(),
+            words.len(),
+            variables,
+            nodes,
+            capacity,
+            steps.as_ptr(),
+            steps.len(),
+            positives.as_mut_ptr(),
+            positives.len(),
+            negatives.as_mut_ptr(),
+            negatives.len(),
+            counts.as_mut_ptr(),
+            counts.len(),
+            statuses.as_mut_ptr(),
+            statuses.len(),
+            compatibles.as_mut_ptr(),
+            compatibles.len(),
+        )
+    };
+    match answer.values()? {
+        (0, 0) => Ok(None),
+        (1, step) if step < steps.len() as u64 => Ok(Some(step as usize)),
+        _ => panic!("none, or a step of the script: {answer:?}"),
+    }
 }

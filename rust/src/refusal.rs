@@ -3,7 +3,7 @@
 use std::error::Error;
 use std::fmt::{Display, Formatter, Result};
 
-/// The number of a refusal, and its byte, node, measurement or needed length.
+/// The number of a refusal, and its byte, node, measurement, step or needed length.
 #[derive(Clone, Copy, Debug, PartialEq, Eq)]
 pub struct Refusal {
     pub number: u32,
@@ -17,6 +17,8 @@ pub enum Place {
     Node,
     /// The reading, by its index in the lent lists.
     Measurement,
+    /// Of a loading script: the byte where it is read, the step where it is walked.
+    ByteOrStep,
     Length,
     Nowhere,
 }
@@ -29,6 +31,7 @@ impl Refusal {
             16 => Place::Length,
             22..=25 => Place::Node,
             53 => Place::Measurement,
+            54 | 55 => Place::ByteOrStep,
             _ => Place::Nowhere,
         }
     }
@@ -56,6 +59,8 @@ impl Refusal {
             51 => "the stow line has the wrong shape",
             52 => "a fact of the stow line is out of range or out of order",
             53 => "a reading is incomplete, its low above its high, or its fact out of range, marked or read already",
+            54 => "the loading script has the wrong shape, or a step too many",
+            55 => "a fact of the loading script is out of range",
             _ => "no number of Quelbrift",
         }
     }
@@ -68,6 +73,7 @@ impl Display for Refusal {
             Place::Byte => write!(out, " at byte {}", self.place)?,
             Place::Node => write!(out, " at node {}", self.place)?,
             Place::Measurement => write!(out, " at reading {}", self.place)?,
+            Place::ByteOrStep => write!(out, " at byte or step {}", self.place)?,
             Place::Length => write!(out, ", {} bytes needed", self.place)?,
             Place::Nowhere => {}
         }

@@ -1,7 +1,7 @@
-//! The wrapper says what `include/quelbrift.h` says: numbers with their texts, limits, verdicts, version. A refusal is shown in
-//! full, the longest line read and a half-known stow judged.
+//! The wrapper says what `include/quelbrift.h` says: numbers with their texts, limits, verdicts, acts, version. A refusal is shown in
+//! full, the longest line read, a half-known stow judged, and a loading script read and walked.
 
-use quelbrift::{Completions, Refusal, Table, Term, Verdict};
+use quelbrift::{Completions, Refusal, Step, Table, Term, Verdict, WalkBuffers};
 use std::collections::HashMap;
 
 const HEADER: &str = include_str!("../../include/quelbrift.h");
@@ -27,7 +27,7 @@ fn limit(name: &str) -> u64 {
 #[test]
 fn texts_are_those_of_the_header() {
     let (numbers, texts) = (numbers(), texts());
-    assert_eq!(numbers.len(), 21);
+    assert_eq!(numbers.len(), 23);
     assert_eq!(texts.len(), numbers.len());
     for (name, number) in numbers {
         if number != 0 {
@@ -46,6 +46,7 @@ fn limits_are_those_of_the_header() {
     assert_eq!(quelbrift::MAX_TEXT as u64, limit("MAX_TEXT"));
     assert_eq!(u64::from(quelbrift::MAX_DEPTH), limit("MAX_DEPTH"));
     assert_eq!(quelbrift::MAX_LINE as u64, limit("MAX_LINE"));
+    assert_eq!(quelbrift::MAX_STEPS as u64, limit("MAX_STEPS"));
 }
 
 #[test]
@@ -53,10 +54,23 @@ fn verdicts_are_those_of_the_header() {
     assert_eq!(Verdict::Forbidden as u64, limit("FORBIDDEN"));
     assert_eq!(Verdict::Open as u64, limit("OPEN"));
     assert_eq!(Verdict::Allowed as u64, limit("ALLOWED"));
+    for verdict in [Verdict::Forbidden, Verdict::Open, Verdict::Allowed] {
+        assert_eq!(Verdict::of_number(verdict as u32), Some(verdict));
+    }
+    assert_eq!(Verdict::of_number(3), None);
+}
+
+#[test]
+fn acts_are_those_of_the_header() {
+    assert_eq!(u64::from(quelbrift::SET_NO), limit("SET_NO"));
+    assert_eq!(u64::from(quelbrift::SET_YES), limit("SET_YES"));
+    assert_eq!(u64::from(quelbrift::DROP), limit("DROP"));
+    assert_eq!(size_of::<Step>(), 8);
 }
 
 #[test]
 fn versions_agree() {
+    assert_eq!(quelbrift::VERSION, 5);
     assert_eq!(u64::from(quelbrift::VERSION), limit("VERSION"));
     assert_eq!(quelbrift::version(), quelbrift::VERSION);
 }
@@ -71,6 +85,8 @@ fn a_refusal_is_shown_with_its_place() {
         shown(53, 2),
         "refused 53 at reading 2: a reading is incomplete, its low above its high, or its fact out of range, marked or read already"
     );
+    assert_eq!(shown(54, 9), "refused 54 at byte or step 9: the loading script has the wrong shape, or a step too many");
+    assert_eq!(shown(55, 0), "refused 55 at byte or step 0: a fact of the loading script is out of range");
     assert_eq!(shown(42, 0), "refused 42: the list has more rows than the room");
 }
 
@@ -99,4 +115,47 @@ fn a_half_known_stow_is_judged() {
     assert_eq!(judged(&[-4], &[-3]), answer(Verdict::Open, 2, 2));
     assert_eq!(judged(&[1], &[0]), Err(Refusal { number: 53, place: 0 }));
     assert_eq!(judged(&[0, 0], &[0]), Err(Refusal { number: 53, place: 1 }));
+}
+
+const UNUSED: Step = Step { variable: 77, act: 77 };
+
+#[test]
+fn a_script_is_read() {
+    let mut list = [UNUSED; 4];
+    assert_eq!(quelbrift::read_script(b"(set 1 yes)\n(drop 0)\n(set 1 no)\n", 2, &mut list), Ok(3));
+    let [yes, no, drop] =
+        [(1, quelbrift::SET_YES), (1, quelbrift::SET_NO), (0, quelbrift::DROP)].map(|(variable, act)| Step { variable, act });
+    assert_eq!(list, [yes, drop, no, UNUSED]);
+    let mut refused = |text: &[u8], length: usize| quelbrift::read_script(text, 2, &mut list[..length]).unwrap_err();
+    assert_eq!(refused(b"(drop 0)\n(drop 0)\n", 1), Refusal { number: 54, place: 9 });
+    assert_eq!(refused(b"(set 2 yes)\n", 4), Refusal { number: 55, place: 6 });
+    assert_eq!(list, [yes, drop, no, UNUSED]);
+    assert_eq!(quelbrift::read_script(b"", 2, &mut []), Ok(0));
+}
+
+/// `(yes 0)` over two variables: forbidden, open, then allowed, and the step named is the first of the last run of allowed.
+#[test]
+fn a_script_is_walked() {
+    let table = Table { words: &[2, 0, 0, 0, 0, 0, 0, 0, 0, 0, 0], variables: 2, nodes: 1 };
+    let walked = |capacity: u32, acts: &[(u32, u32)]| {
+        let steps: Vec<Step> = acts.iter().map(|&(variable, act)| Step { variable, act }).collect();
+        let (mut positives, mut negatives, mut counts, mut statuses, mut compatibles) = ([7], [7], [7], [7; 6], [7; 6]);
+        let buffers = WalkBuffers {
+            positives: &mut positives,
+            negatives: &mut negatives,
+            counts: &mut counts,
+            statuses: &mut statuses,
+            compatibles: &mut compatibles,
+        };
+        (quelbrift::walk(table, capacity, &steps, buffers), statuses, compatibles)
+    };
+    let script = [(0, 1), (0, 0), (0, 2), (0, 1), (1, 0)];
+    assert_eq!(walked(1, &script), (Ok(Some(3)), [2, 0, 1, 2, 2, 7], [1, 0, 1, 1, 1, 7]));
+    assert_eq!(walked(1, &script[..3]), (Ok(None), [2, 0, 1, 7, 7, 7], [1, 0, 1, 7, 7, 7]));
+    assert_eq!(walked(1, &[]), (Ok(None), [7; 6], [7; 6]));
+    let refused = |number, place| (Err(Refusal { number, place }), [7; 6], [7; 6]);
+    assert_eq!(walked(1, &[(0, 1), (0, 3)]), refused(54, 1));
+    assert_eq!(walked(1, &[(0, 1), (2, 2)]), refused(55, 1));
+    assert_eq!(walked(1, &[(0, 1); 7]), refused(41, 0));
+    assert_eq!(walked(0, &script), refused(42, 0));
 }

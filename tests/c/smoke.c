@@ -549,12 +549,14 @@ static void check_listed(listing *lists, const table *circuit, uint32_t capacity
     }
 }
 
+/* The clearances of every node of `worked`, at capacity 4. */
+static const uint64_t worked_positives[20] = {0, 0, 0, 0, 4, 0, 0, 0, 0, 0, 0, 0, 2, 4, 0, 0, 0, 3, 5, 4};
+static const uint64_t worked_negatives[20] = {2, 0, 0, 0, 0, 0, 0, 0, 0, 0, 0, 0, 0, 0, 0, 0, 3, 0, 0, 2};
+static const uint32_t worked_counts[5] = {1, 1, 1, 2, 4};
+
 static void check_list(void)
 {
-    static const uint64_t positives[20] = {0, 0, 0, 0, 4, 0, 0, 0, 0, 0, 0, 0, 2, 4, 0, 0, 0, 3, 5, 4};
-    static const uint64_t negatives[20] = {2, 0, 0, 0, 0, 0, 0, 0, 0, 0, 0, 0, 0, 0, 0, 0, 3, 0, 0, 2};
-    static const uint32_t counts[5] = {1, 1, 1, 2, 4};
-    check_listed(quelbrift_list, &worked, 4, positives, negatives, counts);
+    check_listed(quelbrift_list, &worked, 4, worked_positives, worked_negatives, worked_counts);
 }
 
 /* Just enough room, and room for one more; the four clearances fit neither. */
@@ -682,15 +684,416 @@ static void check_read_assignment(void)
     }
 }
 
+#define SET_NO(variable) {variable, QUELBRIFT_SET_NO}
+#define SET_YES(variable) {variable, QUELBRIFT_SET_YES}
+#define DROP(variable) {variable, QUELBRIFT_DROP}
+
+/* More entries than any list or step buffer here needs. */
+#define MORE_STEPS 300
+
+/* The list that a script is read into. */
+static quelbrift_step script[MORE_STEPS];
+
+static quelbrift_answer read_script(const char *text, size_t length, uint32_t variables, size_t list_length)
+{
+    memset(script, 0xa5, sizeof script);
+    return quelbrift_read_script((const uint8_t *)text, length, variables, script, list_length);
+}
+
+/* Whether the list holds these steps, and after them what it held before. */
+static int script_is(const quelbrift_step *steps, size_t count)
+{
+    return memcmp(script, steps, count * sizeof *steps) == 0
+        && all_bytes(script + count, sizeof script - count * sizeof *script, 0xa5);
+}
+
+/* Whether the list was not written. */
+static int script_untouched(void)
+{
+    return all_bytes(script, sizeof script, 0xa5);
+}
+
+/* Scripts that are read, into a list just long enough and into a longer one. */
+static void check_read_script(void)
+{
+    static const struct {
+        const char *text;
+        uint32_t variables;
+        size_t count;
+        quelbrift_step steps[4];
+    } scripts[] = {
+        {"", 1, 0, {{0, 0}}},
+        {"(set 0 no)\n", 1, 1, {SET_NO(0)}},
+        {"(set 0 yes)\n", 1, 1, {SET_YES(0)}},
+        {"(drop 0)\n", 1, 1, {DROP(0)}},
+        {"(set 2 yes)\n(set 2 no)\n(drop 2)\n(drop 2)\n", 3, 4, {SET_YES(2), SET_NO(2), DROP(2), DROP(2)}},
+        {"(drop 39)\n(set 9 no)\n(set 10 yes)\n", 40, 3, {DROP(39), SET_NO(9), SET_YES(10)}},
+    };
+    for (call = 0; call < LENGTH(scripts); call++) {
+        const char *text = scripts[call].text;
+        const size_t count = scripts[call].count;
+        EXPECT_DONE(read_script(text, strlen(text), scripts[call].variables, count), count, 0);
+        EXPECT(script_is(scripts[call].steps, count));
+        EXPECT_DONE(read_script(text, strlen(text), scripts[call].variables, MORE_STEPS), count, 0);
+        EXPECT(script_is(scripts[call].steps, count));
+    }
+}
+
+/* What each refusal says; it leaves the whole list as it was. */
+static void check_read_script_refusals(void)
+{
+    static const struct {
+        const char *text;
+        uint32_t variables;
+        size_t list_length;
+        uint32_t number;
+        uint64_t place;
+    } scripts[] = {
+        /* the number of variables, before anything else */
+        {"", 0, 9, QUELBRIFT_SIZES, 0},
+        {"(drop 0)\n", 41, 9, QUELBRIFT_SIZES, 0},
+        {"(drop 99)x", UINT32_MAX, 0, QUELBRIFT_SIZES, 0},
+        /* a wrong byte */
+        {"\n", 3, 9, QUELBRIFT_STEP_SHAPE, 0},
+        {"set 0 yes\n", 3, 9, QUELBRIFT_STEP_SHAPE, 0},
+        {"(stow 0)\n", 3, 9, QUELBRIFT_STEP_SHAPE, 2},
+        {"(set  0 yes)\n", 3, 9, QUELBRIFT_STEP_SHAPE, 5},
+        {"(set yes 0)\n", 3, 9, QUELBRIFT_STEP_SHAPE, 5},
+        {"(set 00 yes)\n", 3, 9, QUELBRIFT_STEP_SHAPE, 6},
+        {"(set 0)\n", 3, 9, QUELBRIFT_STEP_SHAPE, 6},
+        {"(set 0 drop)\n", 3, 9, QUELBRIFT_STEP_SHAPE, 7},
+        {"(set 0 yes no)\n", 3, 9, QUELBRIFT_STEP_SHAPE, 10},
+        {"(set 0 yes)\r\n", 3, 9, QUELBRIFT_STEP_SHAPE, 11},
+        {"(drop 0 yes)\n", 3, 9, QUELBRIFT_STEP_SHAPE, 7},
+        {"(set 0 yes)\n(drop 0)\n\n", 3, 9, QUELBRIFT_STEP_SHAPE, 21},
+        {"(set 0 yes)\n(drop 0) \n", 3, 9, QUELBRIFT_STEP_SHAPE, 20},
+        /* the end, where more is needed */
+        {"(", 3, 9, QUELBRIFT_STEP_SHAPE, 1},
+        {"(drop", 3, 9, QUELBRIFT_STEP_SHAPE, 5},
+        {"(set 0 yes)", 3, 9, QUELBRIFT_STEP_SHAPE, 11},
+        {"(set 0 yes)\n(drop 1", 3, 9, QUELBRIFT_STEP_SHAPE, 19},
+        /* a step beyond the list, at its opening bracket or at what stands in its place */
+        {"(drop 0)\n", 3, 0, QUELBRIFT_STEP_SHAPE, 0},
+        {"(set 0 yes)\n(drop 0)\n", 3, 1, QUELBRIFT_STEP_SHAPE, 12},
+        {"(set 0 yes)\n(", 3, 1, QUELBRIFT_STEP_SHAPE, 12},
+        {"(set 0 yes)\nx", 3, 1, QUELBRIFT_STEP_SHAPE, 12},
+        {"(set 0 yes)\n(drop 9)\n", 3, 1, QUELBRIFT_STEP_SHAPE, 12},
+        {"(set 0 yes)\n(drop 1)\n(set 2 no)\n", 3, 2, QUELBRIFT_STEP_SHAPE, 21},
+        /* a variable out of range, at the byte after the number */
+        {"(set 3 yes)\n", 3, 9, QUELBRIFT_STEP_VARIABLE, 6},
+        {"(set 3 no)\n", 3, 9, QUELBRIFT_STEP_VARIABLE, 6},
+        {"(drop 3)\n", 3, 9, QUELBRIFT_STEP_VARIABLE, 7},
+        {"(drop 9999)\n", 40, 9, QUELBRIFT_STEP_VARIABLE, 10},
+        {"(drop 2)\n(set 40 no)\n", 40, 9, QUELBRIFT_STEP_VARIABLE, 16},
+        /* of both, the lower place; at one byte 54 */
+        {"(set 3 yess)\n", 3, 9, QUELBRIFT_STEP_VARIABLE, 6},
+        {"(set 3 ", 3, 9, QUELBRIFT_STEP_VARIABLE, 6},
+        {"(drop 3)\n(drop 0)\n", 3, 1, QUELBRIFT_STEP_VARIABLE, 7},
+        {"(drop x)\n(drop 3)\n", 3, 9, QUELBRIFT_STEP_SHAPE, 6},
+        {"(set 3", 3, 9, QUELBRIFT_STEP_SHAPE, 6},
+        {"(set 3)\n", 3, 9, QUELBRIFT_STEP_SHAPE, 6},
+        {"(drop 3 yes)\n", 3, 9, QUELBRIFT_STEP_SHAPE, 7},
+        {"(drop 12345)\n", 3, 9, QUELBRIFT_STEP_SHAPE, 10},
+    };
+    for (call = 0; call < LENGTH(scripts); call++) {
+        const char *text = scripts[call].text;
+        quelbrift_answer answer = read_script(text, strlen(text), scripts[call].variables, scripts[call].list_length);
+        expect_answer(answer, (quelbrift_answer){scripts[call].number, scripts[call].place, 0, 0, 0}, text, __LINE__);
+        EXPECT(script_untouched());
+    }
+}
+
+/* A script of so many lines (drop 2), and the steps that it means. */
+#define LINE "(drop 2)\n"
+#define LINE_LENGTH (sizeof LINE - 1)
+static char many_lines[MORE_STEPS * LINE_LENGTH + 1];
+static quelbrift_step many_steps[MORE_STEPS];
+
+static void make_many(void)
+{
+    for (size_t i = 0; i < MORE_STEPS; i++) {
+        memcpy(many_lines + i * LINE_LENGTH, LINE, LINE_LENGTH);
+        many_steps[i] = (quelbrift_step)DROP(2);
+    }
+}
+
+/* The most steps, and one more; a list that is shorter than the script, by one and by more. */
+static void check_read_script_limit(void)
+{
+    static const size_t lengths[] = {256, 257, MORE_STEPS};
+    const size_t most = QUELBRIFT_MAX_STEPS;
+    make_many();
+    for (call = 0; call < LENGTH(lengths); call++) {
+        EXPECT_DONE(read_script(many_lines, most * LINE_LENGTH, 3, lengths[call]), most, 0);
+        EXPECT(script_is(many_steps, most));
+        EXPECT_REFUSED(read_script(many_lines, most * LINE_LENGTH + 1, 3, lengths[call]), QUELBRIFT_STEP_SHAPE, most * LINE_LENGTH);
+        EXPECT(script_untouched());
+        EXPECT_REFUSED(read_script(many_lines, (most + 1) * LINE_LENGTH, 3, lengths[call]), QUELBRIFT_STEP_SHAPE, most * LINE_LENGTH);
+        EXPECT(script_untouched());
+        EXPECT_REFUSED(read_script(many_lines, (most + 1) * LINE_LENGTH, 2, lengths[call]), QUELBRIFT_STEP_VARIABLE, 7);
+        EXPECT(script_untouched());
+    }
+    for (size_t length = 0; length < most; length++) {
+        call = length;
+        EXPECT_REFUSED(read_script(many_lines, most * LINE_LENGTH, 3, length), QUELBRIFT_STEP_SHAPE, length * LINE_LENGTH);
+        EXPECT(script_untouched());
+        EXPECT_DONE(read_script(many_lines, length * LINE_LENGTH, 3, length), length, 0);
+        EXPECT(script_is(many_steps, length));
+    }
+    /* A fault in the line past the most is not reached; one in the last line is. */
+    many_lines[most * LINE_LENGTH + 6] = '9';
+    EXPECT_REFUSED(read_script(many_lines, (most + 1) * LINE_LENGTH, 3, MORE_STEPS), QUELBRIFT_STEP_SHAPE, most * LINE_LENGTH);
+    many_lines[(most - 1) * LINE_LENGTH + 6] = '9';
+    EXPECT_REFUSED(read_script(many_lines, (most + 1) * LINE_LENGTH, 3, MORE_STEPS), QUELBRIFT_STEP_VARIABLE, (most - 1) * LINE_LENGTH + 7);
+    EXPECT(script_untouched());
+}
+
+/* The buffers of a walk, longer than any call here needs. */
+typedef struct {
+    buffers listed;
+    uint32_t statuses[MORE_STEPS];
+    uint32_t compatibles[MORE_STEPS];
+} walk_buffers;
+
+static walk_buffers walked;
+
+/* The lengths of the five buffers. */
+typedef struct {
+    size_t positives, negatives, counts, statuses, compatibles;
+} walk_lengths;
+
+static quelbrift_answer walk(const table *circuit, uint32_t capacity, const quelbrift_step *steps, size_t count, walk_lengths lengths)
+{
+    memset(&walked, 0xa5, sizeof walked);
+    return quelbrift_walk(TABLE(circuit), capacity, steps, count, walked.listed.positives, lengths.positives,
+                          walked.listed.negatives, lengths.negatives, walked.listed.counts, lengths.counts, walked.statuses,
+                          lengths.statuses, walked.compatibles, lengths.compatibles);
+}
+
+/* Buffers just long enough. */
+static walk_lengths fitting(const table *circuit, uint32_t capacity, size_t count)
+{
+    const size_t rows = (size_t)circuit->nodes * capacity;
+    return (walk_lengths){rows, rows, circuit->nodes, count, count};
+}
+
+static quelbrift_answer walk_fitting(const table *circuit, uint32_t capacity, const quelbrift_step *steps, size_t count)
+{
+    return walk(circuit, capacity, steps, count, fitting(circuit, capacity, count));
+}
+
+/* Whether no buffer was written. */
+static int untouched(void)
+{
+    return all_bytes(&walked, sizeof walked, 0xa5);
+}
+
+/* Whether neither step buffer was written. */
+static int entries_untouched(void)
+{
+    return all_bytes(walked.statuses, sizeof walked.statuses, 0xa5) && all_bytes(walked.compatibles, sizeof walked.compatibles, 0xa5);
+}
+
+/* Whether the step buffers hold these entries, and after them what they held before. */
+static int entries_are(const uint32_t *statuses, const uint32_t *compatibles, size_t count)
+{
+    return memcmp(walked.statuses, statuses, count * 4) == 0 && memcmp(walked.compatibles, compatibles, count * 4) == 0
+        && all_bytes(walked.statuses + count, sizeof walked.statuses - count * 4, 0xa5)
+        && all_bytes(walked.compatibles + count, sizeof walked.compatibles - count * 4, 0xa5);
+}
+
+/* Whether the other buffers hold the listing of `worked` at capacity 4, and after it what they held before. */
+static int worked_is_listed(void)
+{
+    const buffers *listed = &walked.listed;
+    return memcmp(listed->positives, worked_positives, sizeof worked_positives) == 0
+        && memcmp(listed->negatives, worked_negatives, sizeof worked_negatives) == 0
+        && memcmp(listed->counts, worked_counts, sizeof worked_counts) == 0
+        && all_bytes(listed->positives + 20, sizeof listed->positives - 20 * 8, 0xa5)
+        && all_bytes(listed->negatives + 20, sizeof listed->negatives - 20 * 8, 0xa5)
+        && all_bytes(listed->counts + 5, sizeof listed->counts - 5 * 4, 0xa5);
+}
+
+/* A script with variables that are replaced and dropped; after each step the status, and how many of the four clearances are left. */
+static const quelbrift_step loading[8] = {
+    SET_YES(0), /* +0 +1, +0 +2 and -1 +2 */
+    SET_NO(1),  /* +0 +2 and -1 +2 */
+    SET_YES(2), /* the same, and each is met */
+    DROP(0),    /* -0 -1 too; -1 +2 is met */
+    SET_NO(2),  /* -0 -1 */
+    SET_YES(0), /* none */
+    SET_NO(0),  /* -0 -1, which is met */
+    DROP(2),    /* -1 +2 too */
+};
+static const uint32_t loading_statuses[8] = {1, 1, 2, 2, 1, 0, 2, 2};
+static const uint32_t loading_compatibles[8] = {3, 2, 2, 3, 1, 0, 1, 2};
+
+/* The script and each beginning of it, with buffers just enough and with longer ones. The step named is the first of the last run of
+   allowed, where this run reaches the end. */
+static void check_walk(void)
+{
+    static const uint64_t named[9][2] = {{0, 0}, {0, 0}, {0, 0}, {1, 2}, {1, 2}, {0, 0}, {0, 0}, {1, 6}, {1, 6}};
+    quelbrift_step steps[8];
+    memcpy(steps, loading, sizeof steps);
+    for (size_t count = 0; count <= 8; count++) {
+        const walk_lengths lengths[] = {{20, 20, 5, count, count}, {21, 24, 7, count + 3, count + 1}, {96, 96, 12, 256, MORE_STEPS}};
+        for (size_t i = 0; i < LENGTH(lengths); i++) {
+            call = 8 * i + count;
+            EXPECT_DONE(walk(&worked, 4, steps, count, lengths[i]), named[count][0], named[count][1]);
+            EXPECT(entries_are(loading_statuses, loading_compatibles, count));
+            EXPECT(worked_is_listed());
+        }
+    }
+    EXPECT(memcmp(steps, loading, sizeof steps) == 0);
+}
+
+/* Walks through other circuits: constants, variables that are not named, a conjunction of eight. */
+static void check_walk_more(void)
+{
+    static const table never = {1, 1, 11, {{0}}, 0, 0}, always = {40, 1, 11, {{1}}, 0, 0};
+    static const quelbrift_step steps[] = {SET_YES(0), SET_NO(0), DROP(0)};
+    static const uint32_t zeros[3], ones[3] = {1, 1, 1}, twos[3] = {2, 2, 2};
+    EXPECT_DONE(walk_fitting(&never, 0, steps, 3), 0, 0);
+    EXPECT(entries_are(zeros, zeros, 3));
+    EXPECT_DONE(walk_fitting(&always, 1, steps, 3), 1, 0);
+    EXPECT(entries_are(twos, ones, 3));
+    EXPECT_DONE(walk_fitting(&always, 1, steps, 0), 0, 0);
+    EXPECT(entries_untouched() && walked.listed.counts[0] == 1);
+
+    static const quelbrift_step wide_steps[] = {SET_YES(39), SET_NO(1), SET_NO(39), SET_YES(2), DROP(39)};
+    static const uint32_t wide_statuses[] = {1, 1, 1, 2, 2}, wide_compatibles[] = {4, 3, 3, 3, 3};
+    table wide = worked;
+    wide.variables = 40;
+    EXPECT_DONE(walk_fitting(&wide, 4, wide_steps, 5), 1, 3);
+    EXPECT(entries_are(wide_statuses, wide_compatibles, 5));
+    EXPECT(worked_is_listed());
+
+    /* Both clearances ask for variable 0 and against 3 to 8; one asks for 1, the other for 2. */
+    static const quelbrift_step eight_steps[] = {SET_YES(0), SET_NO(3), SET_NO(4), SET_NO(5), SET_NO(6), SET_NO(7), SET_YES(8),
+                                                 SET_NO(8), SET_NO(1), SET_YES(2), DROP(1), DROP(2), SET_YES(1)};
+    static const uint32_t eight_statuses[] = {1, 1, 1, 1, 1, 1, 0, 1, 1, 2, 2, 1, 2};
+    static const uint32_t eight_compatibles[] = {2, 2, 2, 2, 2, 2, 0, 2, 1, 1, 2, 2, 2};
+    EXPECT_DONE(walk_fitting(&eight, 2, eight_steps, 13), 1, 12);
+    EXPECT(entries_are(eight_statuses, eight_compatibles, 13));
+    EXPECT_DONE(walk_fitting(&eight, 2, eight_steps, 12), 0, 0);
+    EXPECT_DONE(walk_fitting(&eight, 2, eight_steps, 11), 1, 9);
+}
+
+/* The most steps, and one more: where +0 and -1 are known, +2 decides. */
+static void check_walk_limit(void)
+{
+    static quelbrift_step steps[MORE_STEPS] = {SET_YES(0), SET_NO(1)};
+    static uint32_t statuses[MORE_STEPS] = {1, 1}, compatibles[MORE_STEPS] = {3, 2};
+    for (uint32_t i = 2; i < MORE_STEPS; i++) {
+        steps[i] = (quelbrift_step){2, i % 2};
+        statuses[i] = compatibles[i] = 2 * (i % 2);
+    }
+    EXPECT_DONE(walk_fitting(&worked, 4, steps, 256), 1, 255);
+    EXPECT(entries_are(statuses, compatibles, 256));
+    EXPECT(worked_is_listed());
+    EXPECT_DONE(walk_fitting(&worked, 4, steps, 255), 0, 0);
+    EXPECT(entries_are(statuses, compatibles, 255));
+    EXPECT_REFUSED(walk_fitting(&worked, 4, steps, 257), QUELBRIFT_STEP_SHAPE, 256);
+    EXPECT(untouched());
+    EXPECT_REFUSED(walk_fitting(&worked, 4, steps, MORE_STEPS), QUELBRIFT_STEP_SHAPE, 256);
+    EXPECT(untouched());
+    /* A wrong step past the most is not reached, whatever is wrong; one before it is. */
+    steps[257].act = 3;
+    steps[256].variable = 3;
+    EXPECT_REFUSED(walk_fitting(&worked, 4, steps, MORE_STEPS), QUELBRIFT_STEP_SHAPE, 256);
+    steps[255].variable = 3;
+    EXPECT_REFUSED(walk_fitting(&worked, 4, steps, MORE_STEPS), QUELBRIFT_STEP_VARIABLE, 255);
+    steps[100].act = 3;
+    EXPECT_REFUSED(walk_fitting(&worked, 4, steps, 257), QUELBRIFT_STEP_SHAPE, 100);
+    EXPECT(untouched());
+}
+
+/* Wrong steps: the lowest, and of its faults 54; no buffer is written. */
+static void check_walk_steps(void)
+{
+    static const struct {
+        uint32_t variables;
+        quelbrift_step steps[3];
+        uint32_t number;
+        uint64_t place;
+    } scripts[] = {
+        {3, {{0, 3}, DROP(0), DROP(0)}, QUELBRIFT_STEP_SHAPE, 0},
+        {3, {{0, 256}, DROP(0), DROP(0)}, QUELBRIFT_STEP_SHAPE, 0},
+        {3, {DROP(0), DROP(0), {2, UINT32_MAX}}, QUELBRIFT_STEP_SHAPE, 2},
+        {3, {SET_NO(3), DROP(0), DROP(0)}, QUELBRIFT_STEP_VARIABLE, 0},
+        {3, {DROP(0), SET_YES(64), DROP(0)}, QUELBRIFT_STEP_VARIABLE, 1},
+        {3, {DROP(0), DROP(0), DROP(UINT32_MAX)}, QUELBRIFT_STEP_VARIABLE, 2},
+        {40, {DROP(39), DROP(40), DROP(0)}, QUELBRIFT_STEP_VARIABLE, 1},
+        {3, {DROP(0), {3, 3}, DROP(0)}, QUELBRIFT_STEP_SHAPE, 1},
+        {3, {DROP(0), DROP(3), {0, 3}}, QUELBRIFT_STEP_VARIABLE, 1},
+        {3, {DROP(0), {0, 3}, DROP(3)}, QUELBRIFT_STEP_SHAPE, 1},
+        {3, {{UINT32_MAX, UINT32_MAX}, DROP(3), {0, 3}}, QUELBRIFT_STEP_SHAPE, 0},
+    };
+    for (call = 0; call < LENGTH(scripts); call++) {
+        table circuit = worked;
+        circuit.variables = scripts[call].variables;
+        EXPECT_REFUSED(walk_fitting(&circuit, 4, scripts[call].steps, 3), scripts[call].number, scripts[call].place);
+        EXPECT(untouched());
+        /* before 42, and before 41 */
+        EXPECT_REFUSED(walk_fitting(&circuit, 3, scripts[call].steps, 3), scripts[call].number, scripts[call].place);
+        EXPECT(untouched());
+        EXPECT_REFUSED(walk(&circuit, 4097, scripts[call].steps, 3, (walk_lengths){0}), scripts[call].number, scripts[call].place);
+        EXPECT(untouched());
+    }
+}
+
+/* What is refused for the table and for the buffers, with no buffer written; and 42. */
+static void check_walk_refusals(void)
+{
+    static const quelbrift_step wrong[] = {{UINT32_MAX, UINT32_MAX}};
+    static const struct {
+        uint32_t capacity;
+        walk_lengths lengths;
+    } calls[] = {
+        {4, {19, 20, 5, 8, 8}}, {4, {20, 19, 5, 8, 8}}, {4, {20, 20, 4, 8, 8}}, {4, {20, 20, 5, 7, 8}}, {4, {20, 20, 5, 8, 7}},
+        {4, {0, 0, 0, 0, 0}}, {4, {96, 96, 12, 0, MORE_STEPS}}, {4, {96, 96, 12, MORE_STEPS, 0}}, {4097, {96, 96, 12, 8, 8}},
+        {UINT32_MAX, {96, 96, 12, 8, 8}}, {3, {15, 15, 5, 8, 7}}, {3, {15, 15, 5, 7, 8}}, {3, {14, 15, 5, 8, 8}},
+    };
+    for (call = 0; call < LENGTH(calls); call++) {
+        EXPECT_REFUSED(walk(&worked, calls[call].capacity, loading, 8, calls[call].lengths), QUELBRIFT_BUFFERS, 0);
+        EXPECT(untouched());
+    }
+    EXPECT_REFUSED(walk(&worked, 4, loading, 0, (walk_lengths){20, 20, 4, 0, 0}), QUELBRIFT_BUFFERS, 0);
+    EXPECT(untouched());
+    for (size_t count = 0; count <= 8; count++) {
+        for (uint32_t capacity = 0; capacity < 4; capacity++) {
+            call = 4 * count + capacity;
+            EXPECT_REFUSED(walk_fitting(&worked, capacity, loading, count), QUELBRIFT_CAPACITY, 0);
+            EXPECT(zeroed(&walked.listed, (size_t)5 * capacity, 5));
+            EXPECT(entries_untouched());
+        }
+    }
+    FOR_EACH_REFUSED(row) {
+        EXPECT_REFUSED(walk(row, 4097, wrong, 1, (walk_lengths){0}), row->number, row->place);
+        EXPECT(untouched());
+        EXPECT_REFUSED(walk(row, 4, loading, 1, (walk_lengths){96, 96, 12, 8, 8}), row->number, row->place);
+        EXPECT(untouched());
+    }
+}
+
+/* The record of a step as it is lent. */
+static void check_step(void)
+{
+    EXPECT(sizeof(quelbrift_step) == 8);
+    EXPECT(offsetof(quelbrift_step, variable) == 0);
+    EXPECT(offsetof(quelbrift_step, act) == 4);
+}
+
 static void check_version(void)
 {
+    EXPECT(QUELBRIFT_VERSION == 5);
     EXPECT(quelbrift_version() == QUELBRIFT_VERSION);
 }
 
 /* Every number has a text of its own. */
 static void check_texts(void)
 {
-    static const uint32_t numbers[] = {0, 10, 11, 12, 13, 14, 15, 16, 21, 22, 23, 24, 25, 31, 32, 33, 41, 42, 51, 52, 53};
+    static const uint32_t numbers[] = {0, 10, 11, 12, 13, 14, 15, 16, 21, 22, 23, 24, 25, 31, 32, 33, 41, 42, 51, 52, 53, 54, 55};
     for (call = 0; call < LENGTH(numbers); call++) {
         EXPECT(strcmp(quelbrift_text(numbers[call]), quelbrift_text(1)) != 0);
         for (size_t other = 0; other < call; other++) {
@@ -730,6 +1133,15 @@ int main(void)
     run(check_eight_listed);
     run(check_view);
     run(check_read_assignment);
+    run(check_step);
+    run(check_read_script);
+    run(check_read_script_refusals);
+    run(check_read_script_limit);
+    run(check_walk);
+    run(check_walk_more);
+    run(check_walk_limit);
+    run(check_walk_steps);
+    run(check_walk_refusals);
     run(check_version);
     run(check_texts);
     if (failed > 0) {

@@ -4,7 +4,9 @@
 use crate::oracle::answers::{Completions, Verdict};
 use crate::oracle::function::{Listed, Term};
 use crate::oracle::listing::Buffers;
+use crate::oracle::script::Step;
 use crate::oracle::table::Table;
+use crate::oracle::walk::Lent;
 use crate::oracle::Refused;
 use std::cell::Cell;
 use std::panic::{catch_unwind, set_hook, take_hook, AssertUnwindSafe};
@@ -83,4 +85,30 @@ pub fn listing(listed: Listed) -> Listing {
 pub fn list(listed: Listed, table: &Table, capacity: u32, lists: &mut Buffers) -> Result<(), Refused> {
     let Buffers { positives, negatives, counts } = lists;
     own(listing(listed)(lent(table), capacity, middle(positives), middle(negatives), middle(counts)))
+}
+
+fn lent_steps(steps: &[Step]) -> Vec<quelbrift::Step> {
+    steps.iter().map(|&Step { variable, act }| quelbrift::Step { variable, act }).collect()
+}
+
+/// Reads a script into the middle of a list with margins.
+pub fn read_script(text: &[u8], variables: u32, list: &mut Vec<Step>) -> Result<u64, Refused> {
+    let mut steps = lent_steps(list);
+    let answer = own(quelbrift::read_script(text, variables, middle(&mut steps)));
+    *list = steps.iter().map(|&quelbrift::Step { variable, act }| Step { variable, act }).collect();
+    answer.map(|number| number as u64)
+}
+
+/// Walks a script with the middles of five lists with margins lent.
+pub fn walk(table: &Table, capacity: u32, steps: &[Step], lists: &mut Lent) -> Result<Option<u64>, Refused> {
+    let Lent { listing: Buffers { positives, negatives, counts }, statuses, compatibles } = lists;
+    let buffers = quelbrift::WalkBuffers {
+        positives: middle(positives),
+        negatives: middle(negatives),
+        counts: middle(counts),
+        statuses: middle(statuses),
+        compatibles: middle(compatibles),
+    };
+    let answer = own(quelbrift::walk(lent(table), capacity, &lent_steps(steps), buffers));
+    answer.map(|named| named.map(|step| step as u64))
 }

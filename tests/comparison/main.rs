@@ -13,6 +13,7 @@ mod engine;
 mod oracle;
 mod partials;
 mod random;
+mod scripts;
 mod shrink;
 mod tally;
 mod texts;

@@ -80,6 +80,24 @@ pub fn one_product(blocks: u32, k: usize, m: u32) -> Family {
     named(format!("one node of {blocks} times at least {k} of {m}"), c)
 }
 
+/// The same function as `product` of at least 1 of 2, in a table of so many nodes: a chain of conjunctions of eight times one node fills
+/// it up, and the last of them, which is true, is a side of every decision.
+pub fn filled_product(blocks: u32, nodes: usize) -> Family {
+    let mut c = Circuit::new(2 * blocks);
+    let mut top = c.constant(true);
+    // Each block makes a literal, a decision and a conjunction; the first has no conjunction.
+    while c.nodes() + 3 * blocks as usize - 1 < nodes {
+        top = c.conjunction_of(&[top; 8]);
+    }
+    let mut parts = Vec::new();
+    for x in (0..2 * blocks).step_by(2) {
+        let side = c.positive(x);
+        parts.push(c.decision(x + 1, side, top));
+    }
+    c.all(&parts);
+    named(format!("product of {blocks} times at least 1 of 2, filled up"), c)
+}
+
 /// A decision over two thresholds k of m that share some variables.
 pub fn overlap(k: usize, m: u32, common: u32) -> Family {
     let mut c = Circuit::new(2 * m - common + 1);

@@ -1,8 +1,8 @@
 //! The engine beside the same algorithm by hand, the algorithm before, decision diagrams, and a truth table, family by family, for
 //! clearances and then for blockers: `cargo run --release`. With `-- worst` the worst circuits found; the algorithm before does not run
 //! on those marked slow, and with `-- worst by-hand` the engine does not either. With `-- search` a search for bad circuits. With
-//! `-- partial` the verdict for a partial assignment beside the count of models. A listing of every node clears the lent buffers first,
-//! and that is in its time.
+//! `-- partial` the verdict for a partial assignment beside the count of models. With `-- walk` the walk of a script beside the listing
+//! that it starts with. A listing of every node clears the lent buffers first, and that is in its time.
 mod buffers;
 mod by_hand;
 mod by_hand_before;
@@ -23,6 +23,7 @@ mod steps;
 mod terms;
 mod timing;
 mod truth_table;
+mod walk;
 
 use families::Family;
 use measure::{measure, steps, stop, Cell, Measured, Peer};
@@ -141,6 +142,7 @@ fn main() {
         ["worst", "by-hand"] => [Of::Function, Of::Negation].into_iter().for_each(|of| worst(of, true)),
         ["search"] => searched(),
         ["partial"] => partial::print(),
-        _ => stop("the commands are none, worst, worst by-hand, search, and partial"),
+        ["walk"] => walk::print(),
+        _ => stop("the commands are none, worst, worst by-hand, search, partial, and walk"),
     }
 }

@@ -23,7 +23,7 @@ pub struct Listing {
 }
 
 /// Three lists with margins, full of noise.
-fn noise(seed: u64, lengths: [usize; 3]) -> Buffers {
+pub fn noise(seed: u64, lengths: [usize; 3]) -> Buffers {
     let random = Random::new(seed);
     let mut rows = |length: usize| (0..length + 2 * MARGIN).map(|_| random.next()).collect::<Vec<u64>>();
     let [positives, negatives, counts] = lengths.map(&mut rows);
@@ -31,7 +31,7 @@ fn noise(seed: u64, lengths: [usize; 3]) -> Buffers {
 }
 
 /// The lent parts of three lists with margins.
-fn middles(lists: &Buffers) -> Buffers {
+pub fn middles(lists: &Buffers) -> Buffers {
     let Buffers { mut positives, mut negatives, mut counts } = lists.clone();
     Buffers {
         positives: engine::middle(&mut positives).to_vec(),
@@ -41,7 +41,7 @@ fn middles(lists: &Buffers) -> Buffers {
 }
 
 /// The lists with other lent parts in them.
-fn with_middles(lists: &Buffers, middles: &Buffers) -> Buffers {
+pub fn with_middles(lists: &Buffers, middles: &Buffers) -> Buffers {
     let mut with = lists.clone();
     engine::middle(&mut with.positives).copy_from_slice(&middles.positives);
     engine::middle(&mut with.negatives).copy_from_slice(&middles.negatives);

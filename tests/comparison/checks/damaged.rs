@@ -5,6 +5,7 @@ use crate::cases::listings::Listing;
 use crate::cases::partials::Partial;
 use crate::cases::questions::Asked;
 use crate::cases::questions::Question::{Check, Count};
+use crate::cases::walks::Walk;
 use crate::cases::writings::Writing;
 use crate::circuits;
 use crate::compare::compare;
@@ -13,6 +14,7 @@ use crate::oracle::function::{Listed, Term};
 use crate::oracle::table::{Node, Table, MOST_CHILDREN, NODE_WORDS};
 use crate::partials;
 use crate::random::Random;
+use crate::scripts;
 use crate::tally::Tally;
 
 /// Any mask, mostly one within the variables.
@@ -49,6 +51,13 @@ fn every_operation(origin: &str, random: &Random, table: &Table, tally: &mut Tal
     }
     let sink = random.choose(&[0, 40, 400, 4_000, random.position(300)]);
     compare(origin, &Writing::new(table.clone(), sink), tally);
+    let mut steps = scripts::steps(random, table.variables.clamp(1, 64), term, random.choose(&[0, 1, 2, 5, 257]));
+    if random.once_in(2) {
+        scripts::damage(random, &mut steps, table.variables.clamp(1, 64));
+    }
+    let [positives, negatives, counts] = lengths;
+    let lengths = [positives, negatives, counts, random.choose(&[steps.len(), steps.len(), 3]), steps.len() + longer];
+    compare(origin, &Walk { table: table.clone(), capacity, steps, lengths, noise: random.next() }, tally);
 }
 
 #[test]
@@ -60,7 +69,7 @@ fn damaged_tables() {
         every_operation(&format!("damaged, seed {seed}"), &random, &table, &mut tally);
     }
     let refusals: &[(u32, u64)] = &[(21, 1_000), (22, 3_000), (23, 3_000), (24, 1_000), (25, 200)];
-    let operations = ["check", "evaluate", "partial", "count", "implies", "prime", "reduce", "list", "list_negation"];
+    let operations = ["check", "evaluate", "partial", "count", "implies", "prime", "reduce", "list", "list_negation", "walk"];
     tally.expect(&operations.map(|operation| (operation, refusals)));
     tally.expect(&[
         ("check", &[(0, 5_000)]),
@@ -70,6 +79,7 @@ fn damaged_tables() {
         ("reduce", &[(1, 500), (31, 200), (33, 500)]),
         ("list", &[(1, 500), (41, 500), (42, 500)]),
         ("list_negation", &[(0, 500), (1, 500), (41, 500), (42, 500)]),
+        ("walk", &[(0, 200), (1, 50), (41, 500), (42, 200), (54, 1_000), (55, 200)]),
         ("write", &[(1, 5_000), (16, 5_000), (21, 1_000), (22, 3_000)]),
     ]);
 }

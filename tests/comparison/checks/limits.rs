@@ -5,14 +5,18 @@ use crate::cases::partials::Partial;
 use crate::cases::questions::Asked;
 use crate::cases::questions::Question::{Check, Count, Evaluate, Implies, Prime, Reduce};
 use crate::cases::readings::Reading;
+use crate::cases::scripts::Script;
+use crate::cases::walks::Walk;
 use crate::cases::writings::Writing;
 use crate::circuits;
 use crate::compare::compare;
 use crate::oracle::function::{Listed, Term};
+use crate::oracle::script::MOST_STEPS;
 use crate::oracle::table::{Table, MOST_CHILDREN, MOST_NODES, NODE_WORDS};
 use crate::oracle::text::MOST_BYTES;
 use crate::partials;
 use crate::random::Random;
+use crate::scripts;
 use crate::tally::Tally;
 use crate::texts;
 
@@ -39,11 +43,16 @@ fn largest_work(seed: u64) -> u64 {
             compare("limits", &Listing::fitting(listed, table.clone(), capacity, seed), &mut tally);
         }
     }
-    compare("limits", &Writing::new(table, MOST_BYTES), &mut tally);
+    compare("limits", &Writing::new(table.clone(), MOST_BYTES), &mut tally);
     for depth in [16, 17, 3_000] {
         compare("limits", &Reading::new(texts::deep(&random, depth).as_bytes(), MOST_WORDS), &mut tally);
     }
     compare("limits", &Reading::new(texts::largest(&random).as_bytes(), MOST_WORDS), &mut tally);
+    for (table, capacity) in [(&table, 300), (&clauses, 4_096)] {
+        let steps = scripts::steps(&random, table.variables, Term::EMPTY, MOST_STEPS);
+        compare("limits", &Walk::fitting(table.clone(), capacity, steps, seed), &mut tally);
+    }
+    compare("limits", &Script::new(&scripts::text(&random, 40, MOST_STEPS), 40, MOST_STEPS), &mut tally);
     tally.total()
 }
 
@@ -52,7 +61,7 @@ fn largest_work(seed: u64) -> u64 {
 fn within_the_stated_stack() {
     let small = std::thread::Builder::new().stack_size(STATED_STACK + OWN_STACK);
     let compared = small.spawn(|| largest_work(0x6000_0000)).expect("a thread").join();
-    assert_eq!(compared.expect("no difference"), 19);
+    assert_eq!(compared.expect("no difference"), 22);
 }
 
 #[test]
@@ -60,7 +69,7 @@ fn several_threads_at_once() {
     let threads: Vec<_> =
         (0..4).map(|seed| std::thread::spawn(move || (0..3).map(|more| largest_work(8 * seed + more)).sum::<u64>())).collect();
     let compared: u64 = threads.into_iter().map(|thread| thread.join().expect("no difference")).sum();
-    assert_eq!(compared, 4 * 3 * 19);
+    assert_eq!(compared, 4 * 3 * 22);
 }
 
 /// The wrapper's limits are those that the oracle has from the papers.
@@ -70,4 +79,5 @@ fn limits_of_the_papers() {
     assert_eq!(quelbrift::MAX_CHILDREN as usize, MOST_CHILDREN);
     assert_eq!(quelbrift::MAX_NODES as usize, MOST_NODES);
     assert_eq!(quelbrift::MAX_TEXT, MOST_BYTES);
+    assert_eq!(quelbrift::MAX_STEPS, MOST_STEPS);
 }

@@ -12,6 +12,8 @@ mod partials;
 mod questions;
 mod reading;
 mod regressions;
+mod scripts;
 mod small;
+mod walks;
 mod wide;
 mod writing;

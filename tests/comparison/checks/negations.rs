@@ -59,7 +59,7 @@ fn blockers_are_the_clearances_of_the_negation() {
 }
 
 /// The clearances and the blockers of every node of `circuits::cubes`, in the order of its nodes.
-fn rows_of_cubes(number: u32, size: u32) -> [Vec<Vec<Term>>; 2] {
+pub fn rows_of_cubes(number: u32, size: u32) -> [Vec<Vec<Term>>; 2] {
     let empty = Term { positive: 0, negative: 0 };
     let (mut clearances, mut blockers) = (vec![vec![], vec![empty]], vec![vec![empty], vec![]]);
     for block in (0..number).rev() {

@@ -2,13 +2,16 @@
 
 use crate::circuits;
 use crate::damage;
-use crate::oracle::answers::Oracle;
+use crate::oracle::answers::{Oracle, Verdict};
 use crate::oracle::function::{is_prime, Functions, Listed, Term};
 use crate::oracle::measurements::Measurements;
+use crate::oracle::script::{self, Step, MOST_STEPS};
 use crate::oracle::table::{Node, Table};
-use crate::oracle::{grammar, rows, text, writer};
+use crate::oracle::{grammar, refused, rows, text, walk, writer, Refused};
 use crate::partials;
 use crate::random::Random;
+use crate::scripts;
+use std::collections::HashSet;
 
 #[test]
 fn trying_out_and_counting_agree() {
@@ -174,5 +177,117 @@ fn the_grammar_stops_at_the_first_wrong_byte() {
     ];
     for (line, place) in lines {
         assert_eq!(grammar::wrong_shape(grammar::STOW_LINE, line.as_bytes()), place, "{line:?}");
+    }
+    let scripts: [(&str, Option<usize>); 11] = [
+        ("", None),
+        ("(set 1 yes)\n(drop 9999)\n(set 0 no)\n", None),
+        ("(set 1 yes)\n(", Some(13)),
+        ("(set 1 yes)", Some(11)),
+        ("(set 1)\n", Some(6)),
+        ("(drop 1 no)\n", Some(7)),
+        ("(set 1 yesno)\n", Some(10)),
+        ("(drop 07)\n", Some(7)),
+        ("(drop 12345)\n", Some(10)),
+        ("(drop 1)\n\n", Some(9)),
+        ("(K)\n", Some(1)),
+    ];
+    for (script, place) in scripts {
+        assert_eq!(grammar::wrong_shape(grammar::SCRIPT, script.as_bytes()), place, "{script:?}");
+    }
+}
+
+/// Every line that a script can have, whatever the number of variables, and every beginning of one.
+struct Lines {
+    whole: HashSet<Vec<u8>>,
+    begun: HashSet<Vec<u8>>,
+}
+
+impl Lines {
+    fn new() -> Lines {
+        let forms = |number: u32| [format!("(set {number} yes)\n"), format!("(set {number} no)\n"), format!("(drop {number})\n")];
+        let whole: HashSet<Vec<u8>> = (0..10_000).flat_map(forms).map(String::into_bytes).collect();
+        let begun = whole.iter().flat_map(|line| (0..line.len()).map(|length| line[..length].to_vec())).collect();
+        Lines { whole, begun }
+    }
+
+    /// Whether some script of at most so many lines begins with the part.
+    fn can_go_on(&self, part: &[u8], most: usize) -> bool {
+        let mut lines: Vec<&[u8]> = part.split_inclusive(|&byte| byte == b'\n').collect();
+        let last = if part.ends_with(b"\n") { None } else { lines.pop() };
+        let room = lines.len() + usize::from(last.is_some()) <= most;
+        room && lines.iter().all(|line| self.whole.contains(*line)) && last.is_none_or(|begun| self.begun.contains(begun))
+    }
+
+    /// 54 by trying every beginning of the text, 55 by trying every number; of the two the one at the lower byte.
+    fn refusal(&self, text: &[u8], variables: u32, most: usize) -> Option<Refused> {
+        let stops = (1..=text.len()).find(|&length| !self.can_go_on(&text[..length], most)).map(|length| length - 1);
+        let whole = text.is_empty() || text.ends_with(b"\n");
+        let shape = stops.or((!whole).then_some(text.len()));
+        let digit = |place: usize| text.get(place).is_some_and(u8::is_ascii_digit);
+        let number_ends = |&end: &usize| end > 0 && digit(end - 1) && !digit(end);
+        let outside = |&end: &usize| !(0..variables).any(|inside| text[..end].ends_with(format!(" {inside}").as_bytes()));
+        let range = (0..shape.unwrap_or(text.len())).find(|end| number_ends(end) && outside(end));
+        match (range, shape) {
+            (Some(after), _) => refused::<()>(55, after as u64).err(),
+            (None, Some(place)) => refused::<()>(54, place as u64).err(),
+            _ => None,
+        }
+    }
+}
+
+/// The reader of scripts refuses where the definition says, each line there is tried; what it reads is what was printed.
+#[test]
+fn scripts_and_single_lines_agree() {
+    let (lines, mut refusals) = (Lines::new(), 0);
+    for seed in 0..20_000 {
+        let random = Random::of(0x3300, seed);
+        let (variables, number) = (random.between(1, 40) as u32, if random.once_in(200) { 256 } else { random.position(5) });
+        let mut text = scripts::text(&random, variables, number);
+        (0..random.position(3)).for_each(|_| scripts::edit(&random, &mut text));
+        let mut list = vec![Step { variable: 7, act: 7 }; random.choose(&[number, number + 1, number.saturating_sub(1)])];
+        let expected = lines.refusal(&text, variables, list.len().min(MOST_STEPS));
+        let read = script::read(&text, variables, &mut list);
+        assert_eq!(read.err(), expected, "seed {seed}, {:?}", text.escape_ascii().to_string());
+        match read {
+            Ok(steps) => assert_eq!(script::text(&list[..steps as usize]).into_bytes(), text, "seed {seed}"),
+            Err(_) => refusals += 1,
+        }
+    }
+    assert!((5_000..15_000).contains(&refusals), "{refusals} refusals");
+}
+
+/// What is known after a script, by its last line about each variable, is what its lines leave one after the other.
+#[test]
+fn last_lines_and_lines_in_turn_agree() {
+    for seed in 0..2_000 {
+        let random = Random::of(0x3400, seed);
+        let variables = random.between(1, 40) as u32;
+        let mut states = vec![None; variables as usize];
+        let steps = scripts::steps(&random, variables, Term::EMPTY, scripts::number_of_steps(&random));
+        for (index, step) in steps.iter().enumerate() {
+            states[step.variable as usize] = [Some(false), Some(true), None][step.act as usize];
+            let mask = |state: bool| (0..variables).filter(|&x| states[x as usize] == Some(state)).fold(0, |mask, x| mask | 1 << x);
+            let in_turn = Term { positive: mask(true), negative: mask(false) };
+            assert_eq!(walk::known(&steps[..=index], variables), in_turn, "seed {seed}, step {index}");
+        }
+    }
+}
+
+/// What is known is forbidden exactly where every clearance clashes with it, and allowed exactly where one of them lies inside it.
+#[test]
+fn verdicts_and_clearances_left_agree() {
+    for seed in 0..1_000 {
+        let random = Random::of(0x3500, seed);
+        let variables = random.between(1, 8) as u32;
+        let oracle = Oracle::new(&circuits::table(&random, variables));
+        let clearances = oracle.accepted().expect("accepted").primes(Listed::Clearances).pop().expect("a node");
+        for _ in 0..20 {
+            let known = partials::term(&random, variables);
+            let answer = oracle.evaluate_partial(known, &Measurements::default()).expect("a row");
+            let left = clearances.iter().filter(|&&clearance| !walk::clash(clearance, known)).count();
+            assert_eq!(left == 0, answer.verdict == Verdict::Forbidden, "seed {seed}, {known:?}");
+            let inside = |row: &Term| row.positive & !known.positive == 0 && row.negative & !known.negative == 0;
+            assert_eq!(clearances.iter().any(inside), answer.verdict == Verdict::Allowed, "seed {seed}, {known:?}");
+        }
     }
 }

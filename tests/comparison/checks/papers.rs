@@ -1,18 +1,23 @@
 //! The table P1 to P12, the worked example and a conjunction of three, by both sides: the answers stand here as the scope gives them,
-//! and the blockers and the conjunction as worked out by hand from the definitions.
+//! and the blockers, the conjunction and a walk as worked out by hand from the definitions.
 
 use crate::cases::listings::Listing;
 use crate::cases::partials;
 use crate::cases::questions::Asked;
 use crate::cases::questions::Question::{Check, Count};
 use crate::cases::readings::Reading;
+use crate::cases::scripts::Script;
+use crate::cases::walks::Walk;
 use crate::compare::{compare, Case};
 use crate::engine;
 use crate::oracle::answers::{Completions, Oracle, Verdict};
 use crate::oracle::function::Listed::{Blockers, Clearances};
 use crate::oracle::function::{Listed, Term};
+use crate::oracle::listing::Buffers;
 use crate::oracle::measurements::Measurements;
+use crate::oracle::script::{self, Step};
 use crate::oracle::table::{Table, NODE_WORDS};
+use crate::oracle::walk::{self, Lent};
 use crate::oracle::{text, Refused};
 use crate::tally::Tally;
 
@@ -165,5 +170,39 @@ fn capacities_of_the_papers() {
             let refused = rows_of_engine(listed, engine::lent(&table), capacity).err();
             assert_eq!(refused.map(|refusal| (refusal.number, refusal.place)), refusal.map(|number| (number, 0)));
         }
+    }
+}
+
+/// A script through P9, with the status and the number of clearances left after each of its lines: +0 leaves +0 +1, +0 +2 and -1 +2 of
+/// the four, and so on. Where the script ends after a line, the last entry is the step named.
+const WALKED: [(&str, u32, u32, Option<u64>); 8] = [
+    ("(set 0 yes)\n", 1, 3, None),
+    ("(set 1 no)\n", 1, 2, None),
+    ("(set 2 yes)\n", 2, 2, Some(2)),
+    ("(drop 0)\n", 2, 3, Some(2)),
+    ("(set 2 no)\n", 1, 1, None),
+    ("(set 0 yes)\n", 0, 0, None),
+    ("(set 0 no)\n", 2, 1, Some(6)),
+    ("(drop 2)\n", 2, 2, Some(6)),
+];
+
+#[test]
+fn a_walk_by_hand() {
+    let table = engine_against_paper(&KNOWN[8]);
+    let oracle = Oracle::new(&table);
+    let primes = oracle.accepted().expect("accepted").primes(Clearances);
+    for length in 0..=WALKED.len() {
+        let (known, text) = (&WALKED[..length], WALKED[..length].iter().map(|line| line.0).collect::<String>());
+        let mut steps = vec![Step { variable: 9, act: 9 }; length];
+        assert_eq!(script::read(text.as_bytes(), 3, &mut steps), Ok(length as u64));
+        assert_eq!(script::text(&steps), text);
+        let listing = Buffers { positives: vec![7; 20], negatives: vec![7; 20], counts: vec![7; 5] };
+        let mut lent = Lent { listing, statuses: vec![7; length], compatibles: vec![7; length] };
+        let named = walk::walk(&oracle, &primes, 4, &steps, &mut lent).expect("walked");
+        assert_eq!(named, known.last().and_then(|line| line.3), "{text}");
+        assert_eq!(lent.statuses, known.iter().map(|line| line.1).collect::<Vec<_>>(), "{text}");
+        assert_eq!(lent.compatibles, known.iter().map(|line| line.2).collect::<Vec<_>>(), "{text}");
+        same_on_both_sides(Script::new(text.as_bytes(), 3, length));
+        same_on_both_sides(Walk::fitting(table.clone(), 4, steps, 5));
     }
 }

@@ -5,6 +5,8 @@ use crate::cases::partials::Partial;
 use crate::cases::questions::Asked;
 use crate::cases::questions::Question::{Check, Count, Evaluate, Implies, Prime, Reduce};
 use crate::cases::readings::{Line, Reading};
+use crate::cases::scripts::Script;
+use crate::cases::walks::Walk;
 use crate::cases::writings::Writing;
 use crate::compare::{compare, Case};
 use crate::oracle::function::Listed::{Blockers, Clearances};
@@ -36,4 +38,9 @@ fn regressions() {
     again(Reading::new(b"(circuit 3)\n(pick 0 (no 1) (pick 1 (yes 2) (true)))\n", 55));
     again(Asked::new(Table::new(1, 1, &[1, 0, 0, 0, 0, 0, 0, 0, 0, 0, 1]), Check));
     again(Line::new(b"(stow 0 2)\n", 3));
+    again(Script::new(b"(set 0 yes)\n(drop 2)\n(set 0 no)\n", 3, 4));
+    again(Script::new(b"(set 3 yes)\n(drop 2)\n(set 0 no)\n", 3, 2));
+    again(Walk::new(worked(), 4, &[(0, 1), (1, 0), (2, 1), (0, 2)], [20, 20, 5, 4, 4], 1));
+    again(Walk::new(worked(), 4, &[(0, 1), (3, 3)], [19, 20, 5, 4, 4], 1));
+    again(Walk::new(worked(), 3, &[(0, 1)], [15, 15, 5, 1, 1], 1));
 }

@@ -8,7 +8,7 @@ use super::{counting, refused, rows, Refused};
 
 /// A circuit that the check has accepted or refused, with its functions where they can be tried out.
 pub struct Oracle {
-    variables: u32,
+    pub variables: u32,
     checked: Result<Accepted, Refused>,
 }
 

@@ -3,7 +3,7 @@
 
 /// The rules. A capital letter names a rule, any other byte stands for itself. The alternatives of a rule begin with different
 /// bytes; one at most is empty or begins with a rule, and it is taken where no other one begins with the byte.
-const RULES: [(u8, &[&str]); 18] = [
+const RULES: [(u8, &[&str]); 21] = [
     (TEXT, &["(circuit N)\n(O)\nM"]),
     // M: more lines. O: the inside of a line's own form. F: an argument. A: its inside.
     (b'M', &["(O)\nM", ""]),
@@ -26,10 +26,15 @@ const RULES: [(u8, &[&str]); 18] = [
     // V: the rest of a stow line. E: its end.
     (b'V', &[" NV", "E"]),
     (b'E', &[")\n"]),
+    (SCRIPT, &["(K)\nP", ""]),
+    // K: the inside of a line of a script. W: the end of that inside.
+    (b'K', &["set N W", "drop N"]),
+    (b'W', &["yes", "no"]),
 ];
 
 pub const TEXT: u8 = b'T';
 pub const STOW_LINE: u8 = b'S';
+pub const SCRIPT: u8 = b'P';
 
 fn alternatives(rule: u8) -> &'static [&'static str] {
     RULES.iter().find(|(name, _)| *name == rule).expect("a rule").1

@@ -9,12 +9,14 @@ pub mod grammar;
 pub mod listing;
 pub mod measurements;
 pub mod rows;
+pub mod script;
 pub mod table;
 pub mod text;
 pub mod view;
+pub mod walk;
 pub mod writer;
 
-/// A refusal: its number, and its byte, its node, its reading or the needed length.
+/// A refusal: its number, and its byte, its node, its reading, its step or the needed length.
 #[derive(Clone, Copy, Debug, PartialEq, Eq)]
 pub struct Refused {
     pub number: u32,

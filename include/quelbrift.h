@@ -52,6 +52,7 @@ extern "C" {
 #define QUELBRIFT_MAX_DEPTH 16       /* and brackets at most so deep */
 #define QUELBRIFT_MAX_LINE 117       /* the bytes of the longest stow line that is accepted */
 #define QUELBRIFT_MAX_STEPS 256      /* the steps of a loading script: 0 to 256 */
+#define QUELBRIFT_MAX_SCRIPT 3328    /* the bytes of the longest loading script that is accepted */
 
 /*
  * How many elements a buffer needs. No call needs more than:

@@ -20,6 +20,7 @@ pub const MAX_TEXT: usize = 110_000;
 pub const MAX_DEPTH: u32 = 16;
 pub const MAX_LINE: usize = 117;
 pub const MAX_STEPS: usize = 256;
+pub const MAX_SCRIPT: usize = 3328;
 
 /// The acts of a step. Any other number is refused by 54.
 pub const SET_NO: u32 = 0;

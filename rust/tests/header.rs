@@ -47,6 +47,7 @@ fn limits_are_those_of_the_header() {
     assert_eq!(u64::from(quelbrift::MAX_DEPTH), limit("MAX_DEPTH"));
     assert_eq!(quelbrift::MAX_LINE as u64, limit("MAX_LINE"));
     assert_eq!(quelbrift::MAX_STEPS as u64, limit("MAX_STEPS"));
+    assert_eq!(quelbrift::MAX_SCRIPT as u64, limit("MAX_SCRIPT"));
 }
 
 #[test]
@@ -101,6 +102,15 @@ fn longest_line() -> Result<u64, Box<dyn std::error::Error>> {
 fn the_longest_line_is_read() {
     assert_eq!(longest_line().unwrap(), (1 << quelbrift::MAX_VARIABLES) - 1);
     assert!(quelbrift::read_assignment(b"(stow", 1).is_err());
+}
+
+#[test]
+fn the_longest_script_is_read() {
+    let script = "(set 39 yes)\n".repeat(quelbrift::MAX_STEPS);
+    assert_eq!(script.len(), quelbrift::MAX_SCRIPT);
+    let mut list = [Step { variable: 0, act: 0 }; quelbrift::MAX_STEPS];
+    assert_eq!(quelbrift::read_script(script.as_bytes(), quelbrift::MAX_VARIABLES, &mut list).unwrap(), quelbrift::MAX_STEPS);
+    assert!(list.iter().all(|step| *step == Step { variable: 39, act: quelbrift::SET_YES }));
 }
 
 /// `(yes 0)` over two variables: each verdict, and a refusal with its place.

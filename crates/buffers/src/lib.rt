@@ -1,6 +1,7 @@
-// Lent buffers with zeros in every entry.
+// Buffers with zeros in every entry, and copies.
 ghost use mathlib.Core.Path.{_≡_};
-ghost use lib.ListN.{length, replicate};
+ghost use Prim.Native.Nat.{_+_, _≤_};
+ghost use lib.ListN.{length, take, drop, replicate};
 
 // Every mask becomes 0.
 pub fn zero_masks(buffer: &mut [u64])
@@ -20,6 +21,18 @@ pub fn zero_words(buffer: &mut [u32])
     let mut i = 0;
     while i < buffer.len() {
         buffer[i] = 0;
+        i += 1;
+    }
+}
+
+// Copies count entries from `at` on to the front of a buffer.
+pub fn copy(to: &mut [u64], from: &[u64], at: usize, count: usize)
+    requires { ⌜ (at + count ≤ length (now from)) × (count ≤ length (now to)) ⌝ }
+    ensures { λ _. ⌜ take count (now (to .exit)) ≡ take count (drop at (now (from .entry))) ⌝ }
+{
+    let mut i = 0;
+    while i < count {
+        to[i] = from[at + i];
         i += 1;
     }
 }

@@ -105,7 +105,8 @@ module _ {N n : ℕ} {w : List ℕ} (acc : Accepted N n w) where
         subst (λ (f : ℕ → Bool). Lists N f (l ++ k)) negated
         (union-lists N (head false) (rest false) (apart false) s ls ps u lu pu l k hl hk)
 
-    pub all-rows : (c : Bool) → sort before (conjunctionTerms c (primes N (head c)) (primes N (rest c))) ≡ primes N (signedAll c w (d ∷ ds))
-    all-rows c =
-        sort-primes N (signedAll c w (d ∷ ds)) (conjunctionTerms c (primes N (head c)) (primes N (rest c)))
-        (all-lists c (primes N (head c)) (primes N (rest c)) (primes-lists N (head c)) (primes-lists N (rest c)))
+    pub all-rows : (m : List ℕ) (c : Bool) → sort (before m) (conjunctionTerms c (primes m N (head c)) (primes m N (rest c)))
+        ≡ primes m N (signedAll c w (d ∷ ds))
+    all-rows m c =
+        sort-primes m N (signedAll c w (d ∷ ds)) (conjunctionTerms c (primes m N (head c)) (primes m N (rest c)))
+        (all-lists c (primes m N (head c)) (primes m N (rest c)) (primes-lists m N (head c)) (primes-lists m N (rest c)))

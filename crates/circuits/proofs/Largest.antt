@@ -59,5 +59,5 @@ module _ {N n : ℕ} {w : List ℕ} (acc : Accepted N n w) (c : Bool) where
       embeds-trans N (node i) (node j) (node (pred n)) (child-up i j lj (nodeAt w j) refl m) (up k j (omega arith) lj))
       (eq-or-lt-of-le l)
 
-  pub no-more : (i : ℕ) → i < n → length (primes N (node i)) ≤ length (primes N (node (pred n)))
-  no-more i l = embeds-length N (node i) (node (pred n)) (up n i (omega arith) l)
+  pub no-more : (m : List ℕ) (i : ℕ) → i < n → length (primes m N (node i)) ≤ length (primes m N (node (pred n)))
+  no-more m i l = embeds-length N m m (node i) (node (pred n)) (up n i (omega arith) l)

@@ -75,49 +75,49 @@ module _ (N : ℕ) where
       (λ y c n p. absurd (empty-has y c (along (extend-there empty x y b c n) p))))
 
   -- a list of one or none is in order as it stands
-  sort-constant : (b : Bool) → sort before (cond b (empty ∷ []) []) ≡ cond b (empty ∷ []) []
+  sort-constant : (m : List ℕ) (b : Bool) → sort (before m) (cond b (empty ∷ []) []) ≡ cond b (empty ∷ []) []
   unfolding sort
-  sort-constant true = refl
-  sort-constant false = refl
+  sort-constant m true = refl
+  sort-constant m false = refl
 
-  sort-one : (t : Term) → sort before (t ∷ []) ≡ t ∷ []
+  sort-one : (m : List ℕ) (t : Term) → sort (before m) (t ∷ []) ≡ t ∷ []
   unfolding sort
-  sort-one t = refl
+  sort-one m t = refl
 
   -- the terms of the leaves are their prime implicants
-  constant-primes : (b : Bool) → cond b (empty ∷ []) [] ≡ primes N (λ s. b)
-  constant-primes b = sym (sort-constant b) ∙ sort-primes N (λ s. b) (cond b (empty ∷ []) []) (constant-lists b)
+  constant-primes : (m : List ℕ) (b : Bool) → cond b (empty ∷ []) [] ≡ primes m N (λ s. b)
+  constant-primes m b = sym (sort-constant m b) ∙ sort-primes m N (λ s. b) (cond b (empty ∷ []) []) (constant-lists b)
 
-  literal-primes : (b : Bool) (x : ℕ) → x < N → extend empty x b ∷ [] ≡ primes N (λ s. signed b (bit s x))
-  literal-primes b x l =
-      sym (sort-one (extend empty x b)) ∙ sort-primes N (λ s. signed b (bit s x)) (extend empty x b ∷ []) (literal-lists b x l)
+  literal-primes : (m : List ℕ) (b : Bool) (x : ℕ) → x < N → extend empty x b ∷ [] ≡ primes m N (λ s. signed b (bit s x))
+  literal-primes m b x l =
+      sym (sort-one m (extend empty x b)) ∙ sort-primes m N (λ s. signed b (bit s x)) (extend empty x b ∷ []) (literal-lists b x l)
 
 -- ---- the nodes of an accepted table: the terms that are made are the prime implicants of the node's function, or of its negation
-module _ {N n : ℕ} {w : List ℕ} (acc : Accepted N n w) (c : Bool) where
+module _ {N n : ℕ} {w : List ℕ} (acc : Accepted N n w) (m : List ℕ) (c : Bool) where
   abbrev rows : ℕ → List Term
-  rows i = primes N (signedFunction c w i)
+  rows i = primes m N (signedFunction c w i)
 
   -- a constant, a literal
   pub constant-rows : (i : ℕ) (b : Bool) → i < n → nodeAt w i ≡ constant b → cond (signed c b) (empty ∷ []) [] ≡ rows i
-  constant-rows i b l e = constant-primes N (signed c b) ∙ ap (primes N) (sym (signed-is acc c i (constant b) l e))
+  constant-rows i b l e = constant-primes N m (signed c b) ∙ ap (primes m N) (sym (signed-is acc c i (constant b) l e))
 
   pub literal-rows : (i : ℕ) (b : Bool) (x : ℕ) → i < n → nodeAt w i ≡ literal b x → extend empty x (signed c b) ∷ [] ≡ rows i
   literal-rows i b x l e =
-      literal-primes N (signed c b) x (node-fits acc i (literal b x) l e)
-      ∙ ap (primes N) (fun-ext (λ s. signed-signed c b (bit s x)) ∙ sym (signed-is acc c i (literal b x) l e))
+      literal-primes N m (signed c b) x (node-fits acc i (literal b x) l e)
+      ∙ ap (primes m N) (fun-ext (λ s. signed-signed c b (bit s x)) ∙ sym (signed-is acc c i (literal b x) l e))
 
   -- a decision, from its sides' (Proposition 5)
-  pub decision-rows : (i x a b : ℕ) → i < n → nodeAt w i ≡ decision x a b → sort before (decisionTerms x (rows a) (rows b)) ≡ rows i
+  pub decision-rows : (i x a b : ℕ) → i < n → nodeAt w i ≡ decision x a b → sort (before m) (decisionTerms x (rows a) (rows b)) ≡ rows i
   decision-rows i x a b l e =
       let F : Bool → ℕ → Bool = signedSides c w a b in
-      sort-primes N (choice F x) (decisionTerms x (rows a) (rows b))
+      sort-primes m N (choice F x) (decisionTerms x (rows a) (rows b))
       (decision-lists N (variables-wide acc) F x (node-fits acc i (decision x a b) l e .0) (side-free acc c i x a b l e) (rows a) (rows b)
-      (primes-lists N (F false)) (primes-lists N (F true)))
-      ∙ ap (primes N) (sym (signed-is acc c i (decision x a b) l e))
+      (primes-lists m N (F false)) (primes-lists m N (F true)))
+      ∙ ap (primes m N) (sym (signed-is acc c i (decision x a b) l e))
 
   -- a conjunction of one child, and of several
-  pub alone-rows : (d : ℕ) → rows d ≡ primes N (signedAll c w (d ∷ []))
-  alone-rows d = ap (primes N) (fun-ext (λ s. ap (signed c) (sym (and-true (function w d s)))))
+  pub alone-rows : (d : ℕ) → rows d ≡ primes m N (signedAll c w (d ∷ []))
+  alone-rows d = ap (primes m N) (fun-ext (λ s. ap (signed c) (sym (and-true (function w d s)))))
 
-  pub conjunction-rows : (i : ℕ) (ds : List ℕ) → i < n → nodeAt w i ≡ conjunction ds → primes N (signedAll c w ds) ≡ rows i
-  conjunction-rows i ds l e = ap (primes N) (sym (signed-is acc c i (conjunction ds) l e))
+  pub conjunction-rows : (i : ℕ) (ds : List ℕ) → i < n → nodeAt w i ≡ conjunction ds → primes m N (signedAll c w ds) ≡ rows i
+  conjunction-rows i ds l e = ap (primes m N) (sym (signed-is acc c i (conjunction ds) l e))

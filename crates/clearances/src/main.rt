@@ -1,7 +1,7 @@
 // Prints the prime implicants ("clearances") of the circuit whose text stands on standard input. A read or a write that fails is told
 // on standard error. Every function that prints answers whether all of it went.
 ghost use mathlib.Core.Path.{_≡_};
-ghost use lib.ListN.{length};
+ghost use lib.ListN.{length, take};
 ghost use Rattle.text.specs.Answers.{readingOf};
 ghost use Rattle.clearances.specs.Reading.{programAnswer};
 use console::input::Input;
@@ -10,6 +10,7 @@ use console::write;
 use listing::Listing;
 use output::refusals::fault_line;
 use output::refusals::table_refusal_line;
+use table::MAX_VARIABLES;
 use table::Refusal;
 use table::layout::NODE_WORDS;
 use terms::Term;
@@ -26,6 +27,9 @@ const NODES: usize = 64;
 const CAPACITY: u32 = 64;
 
 const ENTRIES: usize = 4096;
+
+// How many variables a circuit has at most.
+const VARIABLES: usize = MAX_VARIABLES as usize;
 
 fn print_term(positive: u64, negative: u64) -> bool {
     let mut line = [0u8; 512];
@@ -78,16 +82,29 @@ fn print_last(positives: &[u64], negatives: &[u64], counts: &[u32], nodes: u32) 
     )
 }
 
-// Lists the circuit and prints its terms, or the refusal.
+// The first entries, so many or all that there are.
+fn front(entries: &[u32], count: u32) -> &[u32]
+    ensures { λ r. ⌜ now r ≡ take count (now (entries .entry)) ⌝ }
+{
+    let n = count as usize;
+    if n < entries.len() {
+        return &entries[..n];
+    }
+    entries
+}
+
+// Lists the circuit, every variable weighing nothing, and prints its terms, or the refusal.
 fn print_circuit(words: &[u32], variables: u32, nodes: u32) -> bool {
     let mut positives = [0u64; ENTRIES];
     let mut negatives = [0u64; ENTRIES];
     let mut counts = [0u32; NODES];
+    let zeros = [0u32; VARIABLES];
     match listing::list(
         &mut positives,
         &mut negatives,
         &mut counts,
         words,
+        front(&zeros, variables),
         variables,
         nodes,
         CAPACITY,

@@ -3,7 +3,7 @@ use Prim.Native.Nat.{ℕ, _+_, _*_, _≤_, _<_}
 use mathlib.Core.Path.{_≡_, sym, subst, _∙_}
 use mathlib.Core.Bool.{Bool, true, false, not, true≢false}
 use mathlib.Core.Logic.{⊎-elim}
-use mathlib.Core.List.{List, List·Memᴰ, List·Memᴰ·append-cases, Memᴰ·append-left, Memᴰ·append-right}
+use mathlib.Core.List.{List, [], List·Memᴰ, List·Memᴰ·append-cases, Memᴰ·append-left, Memᴰ·append-right}
 use native.Mathlib.Nat.{lt-of-lt-of-le, not-suc-le-zero}
 use native.Mathlib.Numerals.{add-one}
 use lib.Dec.{T}
@@ -75,7 +75,7 @@ module _ {x : ℕ} {ap an bp bn : List ℕ} {s : Bool → List ℕ} {kept : List
           (subst (λ (z : Bool). T (not z)) (sym none) tt)))
 
       pub one-extended : (s′ : Bool → List ℕ) (u : Term) (n cost : ℕ) → u ≡ extend (termAt ap an i) x sign
-          → Filled (insert before u (held s (c .listed))) s s′ (Count n)
+          → Filled (insert (before []) u (held s (c .listed))) s s′ (Count n)
           → Grown (sideTerms x sign (termsOf ap an) (termsOf bp bn)) (leastJoins (termsOf ap an) (termsOf bp bn))
           (ListsOne x sign (termsOf bp bn) (termAt ap an i)) s (c .listed) s′ kept
           (To (record { listed = n; kept = c .kept; cost = cost }))
@@ -89,7 +89,7 @@ module _ {x : ℕ} {ap an bp bn : List ℕ} {s : Bool → List ℕ} {kept : List
           )
 
       pub one-over : (s′ : Bool → List ℕ) (u : Term) → u ≡ extend (termAt ap an i) x sign
-          → Filled (insert before u (held s (c .listed))) s s′ Full
+          → Filled (insert (before []) u (held s (c .listed))) s s′ Full
           → Overflow (sideTerms x sign (termsOf ap an) (termsOf bp bn)) s (c .listed)
       one-over s′ u e f =
           let m = subst (λ (z : Term). List·Memᴰ z (sideTerms x sign (termsOf ap an) (termsOf bp bn))) (sym e) member in

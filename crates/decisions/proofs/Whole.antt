@@ -3,7 +3,7 @@ use Prim.Native.Nat.{ℕ, _*_, _≤_, zero-le}
 use mathlib.Core.Path.{_≡_, refl, sym, subst}
 use mathlib.Core.Bool.{Bool, true, false}
 use mathlib.Core.Logic.{⊎-elim}
-use mathlib.Core.List.{List, _++_, List·Memᴰ, List·Memᴰ·not-nil, List·Memᴰ·append-cases, Memᴰ·append-left, Memᴰ·append-right}
+use mathlib.Core.List.{List, [], _++_, List·Memᴰ, List·Memᴰ·not-nil, List·Memᴰ·append-cases, Memᴰ·append-left, Memᴰ·append-right}
 use native.Mathlib.Nat.{not-suc-le-zero}
 use lib.ListN.{length}
 use Rattle.terms.specs.Joins.{extended, decisionTerms}
@@ -90,7 +90,7 @@ module _ {x : ℕ} {ap an bp bn : List ℕ} (h : DecidedAt x ap an bp bn) where
         (List·Memᴰ·append-cases (extended x true a b) n))
         (List·Memᴰ·append-cases (extended x false b a) m)
 
-    pub over₁ : {s′ : Bool → List ℕ} → Overflow (sideTerms x false a b) s₀ 0 → Filled (sort before whole) s₀ s′ Full
+    pub over₁ : {s′ : Bool → List ℕ} → Overflow (sideTerms x false a b) s₀ 0 → Filled (sort (before []) whole) s₀ s′ Full
     over₁ o = over-whole (f .growing .front) refl whole-terms (over-wider low-more o)
 
     -- ---- then the second
@@ -110,7 +110,7 @@ module _ {x : ℕ} {ap an bp bn : List ℕ} (h : DecidedAt x ap an bp bn) where
             free = h .not-high;
           }
 
-      pub over₂ : {s′ : Bool → List ℕ} → Overflow (sideTerms x true b a) s₁ (c .listed) → Filled (sort before whole) s₀ s′ Full
+      pub over₂ : {s′ : Bool → List ℕ} → Overflow (sideTerms x true b a) s₁ (c .listed) → Filled (sort (before []) whole) s₀ s′ Full
       over₂ o =
           over-whole (f .growing .front) refl whole-terms
           (over-then (f .growing .front) (grew-wider low-more (g₁ .0)) (over-wider high-more o))
@@ -134,13 +134,13 @@ module _ {x : ℕ} {ap an bp bn : List ℕ} (h : DecidedAt x ap an bp bn) where
         so-far₂ : Grew whole s₀ 0 s₂ (d .listed)
         so-far₂ = grew-then (f .growing .front) so-far₁ (grew-wider high-more (g₂ .0))
 
-        pub over₃ : {s′ : Bool → List ℕ} → Overflow (leastJoins a b) s₂ (d .listed) → Filled (sort before whole) s₀ s′ Full
+        pub over₃ : {s′ : Bool → List ℕ} → Overflow (leastJoins a b) s₂ (d .listed) → Filled (sort (before []) whole) s₀ s′ Full
         over₃ o = over-whole (f .growing .front) refl whole-terms (over-then (f .growing .front) so-far₂ (over-wider least-more o))
 
         -- ---- and that is all
         pub ends : (s₃ : Bool → List ℕ) (kept₃ : List ℕ) (e : Counts)
             → Grown (leastJoins a b) (leastJoins a b) (λ l. AllSettled (leastJoins a b) l ap an bp bn) s₂ (d .listed) s₃ kept₃ (To e)
-            → Filled (sort before whole) s₀ s₃ (Count (e .listed))
+            → Filled (sort (before []) whole) s₀ s₃ (Count (e .listed))
         unfolding decisionTerms
         ends s₃ kept₃ e g₃ =
             grew-whole (f .growing .front) refl whole-terms

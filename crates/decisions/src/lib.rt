@@ -1,5 +1,6 @@
 // The terms of a decision from the terms of its sides: every search for a shorter join ends in a new term of the list.
 ghost use mathlib.Core.Path.{_≡_};
+ghost use mathlib.Core.List.{[]};
 ghost use Prim.Native.Nat.{_*_, _≤_};
 ghost use lib.ListN.{length};
 ghost use Rattle.terms.specs.Joins.{decisionTerms};
@@ -60,7 +61,7 @@ fn decide(
     requires { ⌜ (length (now negatives) ≡ length (now positives)) × (length (now kept) ≤ 2 * maxCapacity) ⌝ }
     requires { ⌜ HasHalves (length (now ap)) (length (now bp)) (now columns) ⌝ }
     ensures { λ r. ⌜ Filled
-        (sort before (decisionTerms x (termsOf (now (ap .entry)) (now (an .entry))) (termsOf (now (bp .entry)) (now (bn .entry)))))
+        (sort (before []) (decisionTerms x (termsOf (now (ap .entry)) (now (an .entry))) (termsOf (now (bp .entry)) (now (bn .entry)))))
         (bySign (now (positives .entry)) (now (negatives .entry)))
         (bySign (now (positives .exit)) (now (negatives .exit))) r ⌝ }
 {
@@ -134,7 +135,7 @@ fn decide_few(
     requires { ⌜ DecidedAt x (now ap) (now an) (now bp) (now bn) ⌝ }
     requires { ⌜ (length (now negatives) ≡ length (now positives)) × (length (now ap) ≤ shortSide) × (length (now bp) ≤ shortSide) ⌝ }
     ensures { λ r. ⌜ Filled
-        (sort before (decisionTerms x (termsOf (now (ap .entry)) (now (an .entry))) (termsOf (now (bp .entry)) (now (bn .entry)))))
+        (sort (before []) (decisionTerms x (termsOf (now (ap .entry)) (now (an .entry))) (termsOf (now (bp .entry)) (now (bn .entry)))))
         (bySign (now (positives .entry)) (now (negatives .entry)))
         (bySign (now (positives .exit)) (now (negatives .exit))) r ⌝ }
 {
@@ -168,7 +169,7 @@ fn decide_short(
     requires { ⌜ DecidedAt x (now ap) (now an) (now bp) (now bn) ⌝ }
     requires { ⌜ (length (now negatives) ≡ length (now positives)) × (length (now ap) ≤ shortSide) × (length (now bp) ≤ shortSide) ⌝ }
     ensures { λ r. ⌜ Filled
-        (sort before (decisionTerms x (termsOf (now (ap .entry)) (now (an .entry))) (termsOf (now (bp .entry)) (now (bn .entry)))))
+        (sort (before []) (decisionTerms x (termsOf (now (ap .entry)) (now (an .entry))) (termsOf (now (bp .entry)) (now (bn .entry)))))
         (bySign (now (positives .entry)) (now (negatives .entry)))
         (bySign (now (positives .exit)) (now (negatives .exit))) r ⌝ }
 {
@@ -202,7 +203,7 @@ fn decide_middle(
     requires { ⌜ DecidedAt x (now ap) (now an) (now bp) (now bn) ⌝ }
     requires { ⌜ (length (now negatives) ≡ length (now positives)) × (length (now ap) ≤ middleSide) × (length (now bp) ≤ middleSide) ⌝ }
     ensures { λ r. ⌜ Filled
-        (sort before (decisionTerms x (termsOf (now (ap .entry)) (now (an .entry))) (termsOf (now (bp .entry)) (now (bn .entry)))))
+        (sort (before []) (decisionTerms x (termsOf (now (ap .entry)) (now (an .entry))) (termsOf (now (bp .entry)) (now (bn .entry)))))
         (bySign (now (positives .entry)) (now (negatives .entry)))
         (bySign (now (positives .exit)) (now (negatives .exit))) r ⌝ }
 {
@@ -236,7 +237,7 @@ fn decide_long(
     requires { ⌜ DecidedAt x (now ap) (now an) (now bp) (now bn) ⌝ }
     requires { ⌜ length (now negatives) ≡ length (now positives) ⌝ }
     ensures { λ r. ⌜ Filled
-        (sort before (decisionTerms x (termsOf (now (ap .entry)) (now (an .entry))) (termsOf (now (bp .entry)) (now (bn .entry)))))
+        (sort (before []) (decisionTerms x (termsOf (now (ap .entry)) (now (an .entry))) (termsOf (now (bp .entry)) (now (bn .entry)))))
         (bySign (now (positives .entry)) (now (negatives .entry)))
         (bySign (now (positives .exit)) (now (negatives .exit))) r ⌝ }
 {
@@ -271,7 +272,7 @@ pub fn decision(
     requires { ⌜ DecidedAt x (now ap) (now an) (now bp) (now bn) ⌝ }
     requires { ⌜ length (now negatives) ≡ length (now positives) ⌝ }
     ensures { λ r. ⌜ Filled
-        (sort before (decisionTerms x (termsOf (now (ap .entry)) (now (an .entry))) (termsOf (now (bp .entry)) (now (bn .entry)))))
+        (sort (before []) (decisionTerms x (termsOf (now (ap .entry)) (now (an .entry))) (termsOf (now (bp .entry)) (now (bn .entry)))))
         (bySign (now (positives .entry)) (now (negatives .entry)))
         (bySign (now (positives .exit)) (now (negatives .exit))) r ⌝ }
 {

@@ -14,7 +14,8 @@ use Rattle.checks.specs.Arguments.{checkAssignment, checkTerm}
 use Rattle.queries.specs.Queries.{circuit, evaluation, modelCount, implicantTest, primeTest, assignmentTerm, reduction}
 use Rattle.demands.specs.Demands.{At, Answers, tableRefusals, AnyInput}
 use Rattle.demands.proofs.Answers.{answers-test, check-answers, question-answers, tested-answers}
-use Rattle.demands.proofs.Listing.{list-answers, list-kept, list-zeroed, list-rest, view-part, view-none}
+use Rattle.demands.proofs.Listing.{list-answers, list-unweighed, list-weighed, list-kept, list-zeroed, list-rest}
+use Rattle.demands.proofs.Listing.{view-part, view-none}
 use Rattle.demands.proofs.Partial.{partial-answers}
 use Rattle.demands.proofs.Reading.{read-answers, read-zeros, line-answers}
 use Rattle.demands.proofs.Scripts.{script-answers, script-kept, script-rest}
@@ -47,6 +48,8 @@ any-input =
       reduce = reduce-answers;
       partial = λ N n w t m. partial-answers N t m n w;
       list = list-answers;
+      list-unweighed = list-unweighed;
+      list-weighed = list-weighed;
       list-refused = list-kept;
       list-lack = list-zeroed;
       list-past = list-rest;

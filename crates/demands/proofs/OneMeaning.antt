@@ -88,8 +88,8 @@ module _ (N n : ℕ) (w : List ℕ) (acc : check N n w ≡ accepted) where
         reduced = reduced;
         unsatisfied = unsatisfied;
         partial = λ t m h none. partial-judged N t m h none n w acc;
-        walks = λ R es b. walks N n w R es b acc;
-        walk = λ R es b v h. walked N n w R es b v acc h;
+        walks = λ m R es b. walks m N n w R es b acc;
+        walk = λ m R es b v h. walked m N n w R es b v acc h;
       }
 
 pub one-meaning : OneMeaning

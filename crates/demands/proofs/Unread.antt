@@ -22,6 +22,7 @@ use Rattle.terms.specs.Prime.{implicant, prime, primes, reduce}
 use Rattle.terms.specs.Term.{isTerm, mask}
 use Rattle.terms.specs.declared.Term.{Term}
 use Rattle.measurements.specs.Measurement.{entries, measuredTerm, checkMeasurements, Measurements}
+use Rattle.weighing.specs.Weights.{fitting}
 use Rattle.circuits.specs.Check.{check}
 use Rattle.circuits.specs.Function.{signed, signedFunction}
 use Rattle.circuits.proofs.Accepted.{accepted-e}
@@ -110,35 +111,35 @@ module _ (N n : ℕ) (w v : List ℕ) (long : wordsFor n ≤ length w) where
       (λ f. after (checkMeasurements N t m) (answered (judgement N f (measuredTerm t m (entries m)))))
 
   -- ---- the listing
-  module _ (c : Bool) where
+  module _ (c : Bool) (m : List ℕ) where
     abbrev F : ℕ → ℕ → Bool
     F = signedFunction c w
 
     abbrev F′ : ℕ → ℕ → Bool
     F′ = signedFunction c w′
 
-    primes-unread : (i : ℕ) → i < n → nodePrimes N F′ i ≡ nodePrimes N F i
-    primes-unread i l = ap (λ (f : ℕ → Bool). primes N (λ s. signed c (f s))) (function-same n w w′ same i l)
+    primes-unread : (i : ℕ) → i < n → nodePrimes m N F′ i ≡ nodePrimes m N F i
+    primes-unread i l = ap (λ (f : ℕ → Bool). primes m N (λ s. signed c (f s))) (function-same n w w′ same i l)
 
-    exceeds-unread : (R : ℕ) → check N n w ≡ accepted → exceeds N n F′ R ≡ exceeds N n F R
+    exceeds-unread : (R : ℕ) → check N n w ≡ accepted → exceeds m N n F′ R ≡ exceeds m N n F R
     unfolding exceeds
     exceeds-unread R acc = ap (λ (ts : List Term). ltb R (length ts)) (primes-unread (pred n) (node-there acc))
 
-    masks-unread : (R : ℕ) (b : Bool) → listedMasks N n F′ R b ≡ listedMasks N n F R b
+    masks-unread : (R : ℕ) (b : Bool) → listedMasks m N n F′ R b ≡ listedMasks m N n F R b
     unfolding listedMasks
     masks-unread R b =
-        flatMap-local (λ i. padded R (map (λ t. mask t b) (nodePrimes N F′ i))) (λ i. padded R (map (λ t. mask t b) (nodePrimes N F i)))
+        flatMap-local (λ i. padded R (map (λ t. mask t b) (nodePrimes m N F′ i))) (λ i. padded R (map (λ t. mask t b) (nodePrimes m N F i)))
         (below n)
-        (λ i m. ap (λ (ts : List Term). padded R (map (λ t. mask t b) ts)) (primes-unread i (below-out n i m)))
+        (λ i k. ap (λ (ts : List Term). padded R (map (λ t. mask t b) ts)) (primes-unread i (below-out n i k)))
 
-    counts-unread : listedCounts N n F′ ≡ listedCounts N n F
+    counts-unread : listedCounts m N n F′ ≡ listedCounts m N n F
     unfolding listedCounts
     counts-unread =
-        map-local (λ i. length (nodePrimes N F′ i)) (λ i. length (nodePrimes N F i)) (below n)
-        (λ i m. ap (λ (ts : List Term). length ts) (primes-unread i (below-out n i m)))
+        map-local (λ i. length (nodePrimes m N F′ i)) (λ i. length (nodePrimes m N F i)) (below n)
+        (λ i k. ap (λ (ts : List Term). length ts) (primes-unread i (below-out n i k)))
 
     module _ (R : ℕ) (b : Lent) where
-      filled-unread : filled N n F′ R b ≡ filled N n F R b
+      filled-unread : filled m N n F′ R b ≡ filled m N n F R b
       filled-unread = λ j.
           record {
             answer = answered tt;
@@ -147,31 +148,31 @@ module _ (N n : ℕ) (w v : List ℕ) (long : wordsFor n ≤ length w) where
                 (counts-unread j ++ drop n (b .counts));
           }
 
-      list-unread : listTable c N n w′ R b ≡ listTable c N n w R b
+      list-unread : listTable c m N n w′ R b ≡ listTable c m N n w R b
       unfolding listTable
-      list-unread = ap (listChecked N n F′ R b) check-unread ∙ by (check N n w) refl
+      list-unread = ap (listChecked m N n F′ R b) check-unread ∙ by (check N n w) refl
         where
-          by : (o : Outcome (Unit {0})) → check N n w ≡ o → listChecked N n F′ R b o ≡ listChecked N n F R b o
+          by : (o : Outcome (Unit {0})) → check N n w ≡ o → listChecked m N n F′ R b o ≡ listChecked m N n F R b o
           by (answered u) acc =
               ap₂ (λ (x : Bool) (l : ListOut).
-              cond (suffices n R b) (cond x (cleared n R b) l) (untouched 41 0 b))
+              cond (suffices n R b) (cond (fitting N m) (cond x (cleared n R b) l) (untouched 56 0 b)) (untouched 41 0 b))
               (exceeds-unread R acc) filled-unread
           by (refused k i) e = refl
 
   -- ---- the walk
-  walk-unread : (R : ℕ) (es : List Step) (b : WalkLent) → walkTable N n w′ R es b ≡ walkTable N n w R es b
+  walk-unread : (m : List ℕ) (R : ℕ) (es : List Step) (b : WalkLent) → walkTable m N n w′ R es b ≡ walkTable m N n w R es b
   unfolding walkTable
-  walk-unread R es b =
-      ap (λ (c : Outcome (Unit {0})). walkChecked N n w′ R es b (after c steps)) check-unread ∙ by (check N n w) steps refl
+  walk-unread m R es b =
+      ap (λ (c : Outcome (Unit {0})). walkChecked m N n w′ R es b (after c steps)) check-unread ∙ by (check N n w) steps refl
     where
       steps : Outcome (Unit {0})
       steps = checkSteps N 0 es
 
-      by : (c d : Outcome (Unit {0})) → check N n w ≡ c → walkChecked N n w′ R es b (after c d) ≡ walkChecked N n w R es b (after c d)
+      by : (c d : Outcome (Unit {0})) → check N n w ≡ c → walkChecked m N n w′ R es b (after c d) ≡ walkChecked m N n w R es b (after c d)
       by (answered u) (answered v) acc =
           ap₂ (λ (f : ℕ → Bool) (l : ListOut).
           cond (stepsFit es b) (walkListed N f es b (l .after) (l .answer)) (record { answer = refused 41 0; after = b }))
-          (function-same n w w′ same (pred n) (node-there acc)) (list-unread true R (b .rows))
+          (function-same n w w′ same (pred n) (node-there acc)) (list-unread true m R (b .rows))
       by (answered u) (refused k i) acc = refl
       by (refused k i) d e = refl
 

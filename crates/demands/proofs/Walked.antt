@@ -126,15 +126,15 @@ settled-names l = by (ltb first (length l)) refl
         inr (refl, refl, λ i lt h. T-not (allowedFrom l i) (none i lt) (allowed-i l i h))
 
 -- ---- the walk
-module _ (N n : ℕ) (w : List ℕ) (R : ℕ) (es : List Step) (b : WalkLent) (v : ℕ × ℕ) where
+module _ (m : List ℕ) (N n : ℕ) (w : List ℕ) (R : ℕ) (es : List Step) (b : WalkLent) (v : ℕ × ℕ) where
   abbrev f : ℕ → Bool
   f = circuit n w
 
   abbrev out : WalkOut
-  out = walkTable N n w R es b
+  out = walkTable m N n w R es b
 
   abbrev list : ListOut
-  list = listTable true N n w R (b .rows)
+  list = listTable true m N n w R (b .rows)
 
   abbrev statuses : List ℕ
   statuses = afterEach N (status N f) es
@@ -145,11 +145,11 @@ module _ (N n : ℕ) (w : List ℕ) (R : ℕ) (es : List Step) (b : WalkLent) (v
   entry g s rest e k l =
       ap (λ (z : List ℕ). getD z k 0) e ∙ List·getD-append (afterEach N g es) rest 0 k (omega (arith, after-length N g es))
       ∙ after-at N g es k l
-      ∙ ap (λ (m : ℕ). g (known N (take m es))) (sym (add-one k))
+      ∙ ap (λ (j : ℕ). g (known N (take j es))) (sym (add-one k))
 
   module _ (acc : check N n w ≡ accepted) (h : out .answer ≡ answered v) where
     is : out ≡ walkListed N f es b (list .after) accepted
-    is = walk-done N n w R es b v h .1
+    is = walk-done m N n w R es b v h .1
 
     judged : (k : ℕ) → k < length es → let u : Term = known N (take (k + 1) es) in
         StepJudged N f u (getD (out .after .statuses) k 0) (getD (out .after .compatibles) k 0)
@@ -172,10 +172,10 @@ module _ (N n : ℕ) (w : List ℕ) (R : ℕ) (es : List Step) (b : WalkLent) (v
         let named : settled statuses ≡ v = same-value (settled statuses) v (sym (ap (λ (o : WalkOut). o .answer) is) ∙ h) in
         subst₂ Names (sym front) named (settled-names statuses)
 
-    pub walked : Walked N n w R es b v
+    pub walked : Walked m N n w R es b v
     walked =
         record {
-          listed = walk-done N n w R es b v h .0;
+          listed = walk-done m N n w R es b v h .0;
           rows = ap (λ (o : WalkOut). o .after .rows) is;
           steps = λ k l. (known N (take (k + 1) es), known-after N (take (k + 1) es), judged k l);
           names = names;

@@ -91,12 +91,12 @@ module _ (N : ℕ) (es : List Step) where
   steps-answers = from-answers (length es) 0 (zero-add (length es)) (omega arith) (λ j l. absurd (omega arith))
 
 -- ---- the walk
-module _ (N n : ℕ) (w : List ℕ) (R : ℕ) (es : List Step) (b : WalkLent) where
+module _ (m : List ℕ) (N n : ℕ) (w : List ℕ) (R : ℕ) (es : List Step) (b : WalkLent) where
   abbrev list : ListOut
-  list = listTable true N n w R (b .rows)
+  list = listTable true m N n w R (b .rows)
 
   abbrev listRefusals : Refusals
-  listRefusals = (41, At 0) ∷ (42, At 0) ∷ []
+  listRefusals = (41, At 0) ∷ (56, At 0) ∷ (42, At 0) ∷ []
 
   -- the refusals of the tests before the listing: of the table, and of the steps
   abbrev testRefusals : Refusals
@@ -132,7 +132,7 @@ module _ (N n : ℕ) (w : List ℕ) (R : ℕ) (es : List Step) (b : WalkLent) wh
   listed-kept (answered u) e k p h other = absurd (value-not (settled (afterEach N (status N (circuit n w)) es)) k p h)
   listed-kept (refused j i) e k p h other =
       let d : j ≡ k = same-number j i k p h .0 in
-      ap (λ (l : Lent). walkLent l (b .statuses) (b .compatibles)) (list-kept true N n w R (b .rows) j i e (λ c. other (sym d ∙ c)))
+      ap (λ (l : Lent). walkLent l (b .statuses) (b .compatibles)) (list-kept true m N n w R (b .rows) j i e (λ c. other (sym d ∙ c)))
 
   listed-lack : (o : Outcome (Unit {0})) → list .answer ≡ o → Lack (byList o)
   listed-lack (answered u) e p h = absurd (value-not (settled (afterEach N (status N (circuit n w)) es)) 42 p h)
@@ -147,7 +147,7 @@ module _ (N n : ℕ) (w : List ℕ) (R : ℕ) (es : List Step) (b : WalkLent) wh
   byRoom x = cond x (byList (list .answer)) (record { answer = refused 41 0; after = b })
 
   room-answers : (x : Bool) → Answers walkRefusals (byRoom x .answer)
-  room-answers true = listed-answers (list .answer) (list-answers true N n w R (b .rows))
+  room-answers true = listed-answers (list .answer) (list-answers true m N n w R (b .rows))
   room-answers false = answers-right testRefusals listRefusals (byRoom false .answer) (inl (refl, refl))
 
   room-kept : (x : Bool) → Kept (byRoom x)
@@ -164,7 +164,7 @@ module _ (N n : ℕ) (w : List ℕ) (R : ℕ) (es : List Step) (b : WalkLent) wh
 
   -- ---- by the answer of the tests before
   abbrev byCheck : Outcome (Unit {0}) → WalkOut
-  byCheck o = walkChecked N n w R es b o
+  byCheck o = walkChecked m N n w R es b o
 
   checked-answers : (o : Outcome (Unit {0})) → Answers testRefusals o → Answers walkRefusals (byCheck o .answer)
   checked-answers (answered u) h = room-answers (stepsFit es b)
@@ -187,7 +187,7 @@ module _ (N n : ℕ) (w : List ℕ) (R : ℕ) (es : List Step) (b : WalkLent) wh
   tests = after (check N n w) (checkSteps N 0 es)
 
   abbrev out : WalkOut
-  out = walkTable N n w R es b
+  out = walkTable m N n w R es b
 
   tests-answers : Answers testRefusals tests
   tests-answers = question-answers N n w (stepRefusals N es) (checkSteps N 0 es) (steps-answers N es)
@@ -234,18 +234,18 @@ good-steps N es good = by (checkSteps N 0 es) (steps-answers N es)
     by (refused k p) (inr (inl (e, (s, t)))) = absurd (never p s)
     by (refused k p) (inr (inr h)) = absurd h
 
-module _ (N n : ℕ) (w : List ℕ) (R : ℕ) (es : List Step) (b : WalkLent) (acc : check N n w ≡ accepted) where
+module _ (m : List ℕ) (N n : ℕ) (w : List ℕ) (R : ℕ) (es : List Step) (b : WalkLent) (acc : check N n w ≡ accepted) where
   pub walks : ((i : ℕ) → i < length es → T (not (wrongAct es i || wrongVariable N es i))) → length es ≤ length (b .statuses)
-      → length es ≤ length (b .compatibles) → listTable true N n w R (b .rows) .answer ≡ answered tt
-      → (v : ℕ × ℕ) × (walkTable N n w R es b .answer ≡ answered v)
+      → length es ≤ length (b .compatibles) → listTable true m N n w R (b .rows) .answer ≡ answered tt
+      → (v : ℕ × ℕ) × (walkTable m N n w R es b .answer ≡ answered v)
   unfolding walkTable
   walks good ls lc done =
       let f : ℕ → Bool = circuit n w in
-      let list : ListOut = listTable true N n w R (b .rows) in
+      let list : ListOut = listTable true m N n w R (b .rows) in
       let fits : stepsFit es b ≡ true =
       ap₂ _&&_ (le-leb (length es) (length (b .statuses)) ls) (le-leb (length es) (length (b .compatibles)) lc) in (
         settled (afterEach N (status N f) es),
-        ap₂ (λ (c d : Outcome (Unit {0})). walkChecked N n w R es b (after c d) .answer) acc (good-steps N es good)
+        ap₂ (λ (c d : Outcome (Unit {0})). walkChecked m N n w R es b (after c d) .answer) acc (good-steps N es good)
             ∙ ap₂ (λ (x : Bool) (o : Outcome (Unit {0})).
             cond x (walkListed N f es b (list .after) o) (record { answer = refused 41 0; after = b }) .answer)
             fits done,

@@ -26,14 +26,15 @@ use Rattle.text_assignment.specs.Meaning.{LineReadsAs}
 use Rattle.text_script.specs.Meaning.{ScriptReadsAs}
 use Rattle.text_script.specs.Script.{readSteps, readScript}
 use Rattle.terms.specs.Completions.{unknowns}
-use Rattle.terms.specs.Lists.{keep, Rising}
+use Rattle.terms.specs.Lists.{keep, less, Rising}
 use Rattle.terms.specs.Order.{before}
 use Rattle.terms.specs.Prime.{primes, Implicant, Prime}
-use Rattle.terms.specs.Term.{has, variables, agrees, conflict, Agrees, IsTerm, termsOf}
+use Rattle.terms.specs.Term.{has, variables, literals, agrees, conflict, Agrees, IsTerm, termsOf}
 use Rattle.terms.specs.declared.Term.{Term}
 use Rattle.states.specs.States.{stateAt}
 use Rattle.states.specs.declared.State.{State}
 use Rattle.states.specs.declared.StateJoin.{StateJoin}
+use Rattle.weighing.specs.Weights.{maxWeight}
 use Rattle.measurements.specs.Measurement.{entries, variableAt, lowAt, highAt, thresholdAt, says, wrong, Measurements}
 use Rattle.circuits.specs.Check.{check}
 use Rattle.circuits.specs.Function.{function, nodeValue}
@@ -114,6 +115,19 @@ ActAt N es i = WrongStep N es i × T (wrongAct es i)
 abbrev pub VariableAt : ℕ → List Step → ℕ → Type 0
 VariableAt N es i = WrongStep N es i × T (not (wrongAct es i))
 
+-- of a listing: an accepted table, a capacity within the limit, and buffers large enough, whatever they hold, are not refused; so are
+-- exactly N weights, each at most 1,000
+pub record Room (N n : ℕ) (w : List ℕ) (R : ℕ) (b : Lent) : Type 0 where
+  pub table : check N n w ≡ accepted
+  pub capacity : R ≤ maxCapacity
+  pub positives : n * R ≤ length (b .positives)
+  pub negatives : n * R ≤ length (b .negatives)
+  pub counts : n ≤ length (b .counts)
+
+pub record Weights (N : ℕ) (m : List ℕ) : Type 0 where
+  pub number : length m ≡ N
+  pub most : (x : ℕ) → x < N → getD m x 0 ≤ maxWeight
+
 -- every operation answers and leaves the same for the table w′ as for w
 pub record SameAnswers (N n : ℕ) (w w′ : List ℕ) : Type 0 where
   pub check : check N n w′ ≡ check N n w
@@ -124,8 +138,8 @@ pub record SameAnswers (N n : ℕ) (w w′ : List ℕ) : Type 0 where
   pub prime : (t : Term) → primeTest N n w′ t ≡ primeTest N n w t
   pub reduce : (s : ℕ) → reduction N n w′ s ≡ reduction N n w s
   pub partial : (t : Term) (m : Measurements) → partialEvaluation N n w′ t m ≡ partialEvaluation N n w t m
-  pub list : (c : Bool) (R : ℕ) (b : Lent) → listTable c N n w′ R b ≡ listTable c N n w R b
-  pub walk : (R : ℕ) (es : List Step) (b : WalkLent) → walkTable N n w′ R es b ≡ walkTable N n w R es b
+  pub list : (c : Bool) (m : List ℕ) (R : ℕ) (b : Lent) → listTable c m N n w′ R b ≡ listTable c m N n w R b
+  pub walk : (m : List ℕ) (R : ℕ) (es : List Step) (b : WalkLent) → walkTable m N n w′ R es b ≡ walkTable m N n w R es b
 
 -- ---- demand 1: every operation takes any input and does its work or refuses by a number of the scope, at a place that the
 -- scope allows; what a refusal leaves in each lent buffer is fixed
@@ -159,20 +173,26 @@ pub record AnyInput : Type 0 where
   -- the judgement of the term t with the measurements m: 53 comes with the lowest wrong one
   pub partial : (N n : ℕ) (w : List ℕ) (t : Term) (m : Measurements)
       → Answers (tableRefusals n ++ ((32, At 0) ∷ (53, WrongAt N t m) ∷ [])) (partialEvaluation N n w t m)
-  -- listing with the capacity R into the buffers b: the nodes' functions where c is true, their negations where it is false
-  pub list : (c : Bool) (N n : ℕ) (w : List ℕ) (R : ℕ) (b : Lent)
-      → Answers (tableRefusals n ++ ((41, At 0) ∷ (42, At 0) ∷ [])) (listTable c N n w R b .answer)
+  -- listing by the weights m with the capacity R into the buffers b: the nodes' functions where c is true, their negations where it is
+  -- false
+  pub list : (c : Bool) (m : List ℕ) (N n : ℕ) (w : List ℕ) (R : ℕ) (b : Lent)
+      → Answers (tableRefusals n ++ ((41, At 0) ∷ (56, At 0) ∷ (42, At 0) ∷ [])) (listTable c m N n w R b .answer)
+  -- 56 exactly if there is not one weight for each variable, or one is above 1,000: after 21 to 25 and 41, and before 42
+  pub list-unweighed : (c : Bool) (m : List ℕ) (N n : ℕ) (w : List ℕ) (R : ℕ) (b : Lent) → Room N n w R b → (Weights N m → ⊥)
+      → listTable c m N n w R b .answer ≡ refused 56 0
+  pub list-weighed : (c : Bool) (m : List ℕ) (N n : ℕ) (w : List ℕ) (R : ℕ) (b : Lent) (p : ℕ)
+      → listTable c m N n w R b .answer ≡ refused 56 p → Weights N m → ⊥
   -- a refusal other than 42 leaves every buffer as it was
-  pub list-refused : (c : Bool) (N n : ℕ) (w : List ℕ) (R : ℕ) (b : Lent) (k p : ℕ) → listTable c N n w R b .answer ≡ refused k p → k ≢ 42
-      → listTable c N n w R b .after ≡ b
+  pub list-refused : (c : Bool) (m : List ℕ) (N n : ℕ) (w : List ℕ) (R : ℕ) (b : Lent) (k p : ℕ) → listTable c m N n w R b .answer ≡ refused k p → k ≢ 42
+      → listTable c m N n w R b .after ≡ b
   -- 42 leaves zeros in the first n × R entries of both row buffers and in the first n counts, and the rest as it was
-  pub list-lack : (c : Bool) (N n : ℕ) (w : List ℕ) (R : ℕ) (b : Lent) (p : ℕ) → listTable c N n w R b .answer ≡ refused 42 p
-      → listTable c N n w R b .after
+  pub list-lack : (c : Bool) (m : List ℕ) (N n : ℕ) (w : List ℕ) (R : ℕ) (b : Lent) (p : ℕ) → listTable c m N n w R b .answer ≡ refused 42 p
+      → listTable c m N n w R b .after
       ≡ lent (replicate (n * R) 0 ++ drop (n * R) (b .positives)) (replicate (n * R) 0 ++ drop (n * R) (b .negatives))
       (replicate n 0 ++ drop n (b .counts))
   -- a listing that is done leaves the entries past n × R, and the counts past n, as they were
-  pub list-past : (c : Bool) (N n : ℕ) (w : List ℕ) (R : ℕ) (b : Lent) → let a : Lent = listTable c N n w R b .after in
-      listTable c N n w R b .answer ≡ answered tt
+  pub list-past : (c : Bool) (m : List ℕ) (N n : ℕ) (w : List ℕ) (R : ℕ) (b : Lent) → let a : Lent = listTable c m N n w R b .after in
+      listTable c m N n w R b .answer ≡ answered tt
       → (drop (n * R) (a .positives) ≡ drop (n * R) (b .positives))
       × (drop (n * R) (a .negatives) ≡ drop (n * R) (b .negatives))
       × (drop n (a .counts) ≡ drop n (b .counts))
@@ -191,20 +211,20 @@ pub record AnyInput : Type 0 where
       → readScript s N list .steps ≡ list
   pub script-past : (s : List ℕ) (N : ℕ) (list : List Step) (k : ℕ) → readScript s N list .answer ≡ answered k
       → drop k (readScript s N list .steps) ≡ drop k list
-  -- walking the steps es with the capacity R and the buffers b
-  pub walk : (N n : ℕ) (w : List ℕ) (R : ℕ) (es : List Step) (b : WalkLent)
-      → Answers (tableRefusals n ++ ((54, ActAt N es) ∷ (55, VariableAt N es) ∷ (41, At 0) ∷ (42, At 0) ∷ []))
-      (walkTable N n w R es b .answer)
+  -- walking the steps es by the weights m with the capacity R and the buffers b
+  pub walk : (m : List ℕ) (N n : ℕ) (w : List ℕ) (R : ℕ) (es : List Step) (b : WalkLent)
+      → Answers (tableRefusals n ++ ((54, ActAt N es) ∷ (55, VariableAt N es) ∷ (41, At 0) ∷ (56, At 0) ∷ (42, At 0) ∷ []))
+      (walkTable m N n w R es b .answer)
   -- a refusal other than 42 leaves every buffer as it was; 42 leaves the listing's as the listing does, and those of the steps
-  pub walk-refused : (N n : ℕ) (w : List ℕ) (R : ℕ) (es : List Step) (b : WalkLent) (k p : ℕ)
-      → walkTable N n w R es b .answer ≡ refused k p → k ≢ 42 → walkTable N n w R es b .after ≡ b
-  pub walk-lack : (N n : ℕ) (w : List ℕ) (R : ℕ) (es : List Step) (b : WalkLent) (p : ℕ) → walkTable N n w R es b .answer ≡ refused 42 p
-      → (listTable true N n w R (b .rows) .answer ≡ refused 42 p)
-      × (walkTable N n w R es b .after ≡ walkLent (listTable true N n w R (b .rows) .after) (b .statuses) (b .compatibles))
+  pub walk-refused : (m : List ℕ) (N n : ℕ) (w : List ℕ) (R : ℕ) (es : List Step) (b : WalkLent) (k p : ℕ)
+      → walkTable m N n w R es b .answer ≡ refused k p → k ≢ 42 → walkTable m N n w R es b .after ≡ b
+  pub walk-lack : (m : List ℕ) (N n : ℕ) (w : List ℕ) (R : ℕ) (es : List Step) (b : WalkLent) (p : ℕ) → walkTable m N n w R es b .answer ≡ refused 42 p
+      → (listTable true m N n w R (b .rows) .answer ≡ refused 42 p)
+      × (walkTable m N n w R es b .after ≡ walkLent (listTable true m N n w R (b .rows) .after) (b .statuses) (b .compatibles))
   -- a walk that is done leaves the entries past the steps as they were
-  pub walk-past : (N n : ℕ) (w : List ℕ) (R : ℕ) (es : List Step) (b : WalkLent) (v : ℕ × ℕ)
-      → let a : WalkLent = walkTable N n w R es b .after in
-      walkTable N n w R es b .answer ≡ answered v
+  pub walk-past : (m : List ℕ) (N n : ℕ) (w : List ℕ) (R : ℕ) (es : List Step) (b : WalkLent) (v : ℕ × ℕ)
+      → let a : WalkLent = walkTable m N n w R es b .after in
+      walkTable m N n w R es b .answer ≡ answered v
       → (drop (length es) (a .statuses) ≡ drop (length es) (b .statuses))
       × (drop (length es) (a .compatibles) ≡ drop (length es) (b .compatibles))
   -- words past those of the nodes are not read: any v may stand there
@@ -265,7 +285,7 @@ pub record StepJudged (N : ℕ) (f : ℕ → Bool) (u : Term) (v c : ℕ) : Type
   pub satisfied : (v ≡ 2 → Implicant N f u) × (Implicant N f u → v ≡ 2)
   pub falsified : (v ≡ 0 → Implicant N (λ s. not (f s)) u) × (Implicant N (λ s. not (f s)) u → v ≡ 0)
   pub range : v ≤ 2
-  pub number : c ≡ length (keep (λ t. not (conflict t u)) (primes N f))
+  pub number : c ≡ length (keep (λ t. not (conflict t u)) (primes [] N f))
   -- forbidden exactly if every prime implicant conflicts with it
   pub none : (v ≡ 0 → c ≡ 0) × (c ≡ 0 → v ≡ 0)
 
@@ -279,14 +299,14 @@ Names l v =
     ⊎ ((v .0 ≡ 0) × (v .1 ≡ 0) × ((i : ℕ) → i < length l → AllowedFrom l i → ⊥))
 
 -- a walk of an accepted circuit that is done
-pub record Walked (N n : ℕ) (w : List ℕ) (R : ℕ) (es : List Step) (b : WalkLent) (v : ℕ × ℕ) : Type 0 where
+pub record Walked (m : List ℕ) (N n : ℕ) (w : List ℕ) (R : ℕ) (es : List Step) (b : WalkLent) (v : ℕ × ℕ) : Type 0 where
   -- the listing is done first
-  pub listed : listTable true N n w R (b .rows) .answer ≡ answered tt
-  pub rows : walkTable N n w R es b .after .rows ≡ listTable true N n w R (b .rows) .after
+  pub listed : listTable true m N n w R (b .rows) .answer ≡ answered tt
+  pub rows : walkTable m N n w R es b .after .rows ≡ listTable true m N n w R (b .rows) .after
   -- each prefix is judged by itself
-  pub steps : (k : ℕ) → k < length es → let a : WalkLent = walkTable N n w R es b .after in
+  pub steps : (k : ℕ) → k < length es → let a : WalkLent = walkTable m N n w R es b .after in
       (u : Term) × KnownAfter N (take (k + 1) es) u × StepJudged N (circuit n w) u (getD (a .statuses) k 0) (getD (a .compatibles) k 0)
-  pub names : Names (take (length es) (walkTable N n w R es b .after .statuses)) v
+  pub names : Names (take (length es) (walkTable m N n w R es b .after .statuses)) v
 
 -- an accepted circuit
 pub record Means (N n : ℕ) (w : List ℕ) : Type 0 where
@@ -305,10 +325,11 @@ pub record Means (N n : ℕ) (w : List ℕ) : Type 0 where
   pub partial : (t : Term) (m : Measurements) → IsTerm N t → ((i : ℕ) → i < entries m → T (not (wrong N (variables t) m i)))
       → JudgedWith N (circuit n w) t m (partialEvaluation N n w t m)
   -- a loading script, walked: done where no step is wrong, the steps' buffers have an entry each, and the listing is done
-  pub walks : (R : ℕ) (es : List Step) (b : WalkLent) → ((i : ℕ) → i < length es → T (not (wrongAct es i || wrongVariable N es i)))
-      → length es ≤ length (b .statuses) → length es ≤ length (b .compatibles) → listTable true N n w R (b .rows) .answer ≡ answered tt
-      → (v : ℕ × ℕ) × (walkTable N n w R es b .answer ≡ answered v)
-  pub walk : (R : ℕ) (es : List Step) (b : WalkLent) (v : ℕ × ℕ) → walkTable N n w R es b .answer ≡ answered v → Walked N n w R es b v
+  pub walks : (m : List ℕ) (R : ℕ) (es : List Step) (b : WalkLent) → ((i : ℕ) → i < length es → T (not (wrongAct es i || wrongVariable N es i)))
+      → length es ≤ length (b .statuses) → length es ≤ length (b .compatibles) → listTable true m N n w R (b .rows) .answer ≡ answered tt
+      → (v : ℕ × ℕ) × (walkTable m N n w R es b .answer ≡ answered v)
+  pub walk : (m : List ℕ) (R : ℕ) (es : List Step) (b : WalkLent) (v : ℕ × ℕ) → walkTable m N n w R es b .answer ≡ answered v
+      → Walked m N n w R es b v
 
 pub record OneMeaning : Type 0 where
   -- the questions to every accepted circuit
@@ -332,16 +353,13 @@ pub record OneMeaning : Type 0 where
       → readText (take k (writeTable N n w sink .sink)) m
       ≡ answers (answered (N, n)) (take (wordsFor n) w ++ replicate (m - wordsFor n) 0)
 
--- ---- demand 3: a listing of an accepted circuit is refused (42) exactly if it has more prime implicants than the capacity; else every
--- node's entries are all its prime implicants, each once, in order, and nothing else; no node has more than the last. F is the function
--- of each node: what the circuit says, or its negation
--- what the listing asks: an accepted table, a capacity within the limit, and buffers large enough, whatever they hold
-pub record Asked (N n : ℕ) (w : List ℕ) (R : ℕ) (b : Lent) : Type 0 where
-  pub table : check N n w ≡ accepted
-  pub capacity : R ≤ maxCapacity
-  pub positives : n * R ≤ length (b .positives)
-  pub negatives : n * R ≤ length (b .negatives)
-  pub counts : n ≤ length (b .counts)
+-- ---- demand 3: a listing of an accepted circuit by weights that fit is refused (42) exactly if it has more prime implicants than the
+-- capacity; else every node's entries are all its prime implicants, each once, in order by the weights, and nothing else; no node has more
+-- than the last. F is the function of each node: what the circuit says, or its negation
+-- what the listing asks
+pub record Asked (m : List ℕ) (N n : ℕ) (w : List ℕ) (R : ℕ) (b : Lent) : Type 0 where
+  pub room : Room N n w R b
+  pub weights : Weights N m
 
 -- node i's entries in the buffers a: as many as its count says, from i × R on, as terms
 abbrev pub entriesAt : ℕ → Lent → ℕ → List Term
@@ -349,31 +367,38 @@ entriesAt R a i =
     let c : ℕ = getD (a .counts) i 0 in
     termsOf (take c (drop (i * R) (a .positives))) (take c (drop (i * R) (a .negatives)))
 
--- node i in the buffers a after a listing
-pub record NodeListed (N n : ℕ) (F : ℕ → ℕ → Bool) (R : ℕ) (a : Lent) (i : ℕ) : Type 0 where
+-- the order without weights: fewer literals first, then the smaller mask of all variables, then the smaller positive mask
+abbrev pub byLiterals : Term → Term → Bool
+byLiterals t u = less (literals t ∷ variables t ∷ t .positive ∷ []) (literals u ∷ variables u ∷ u .positive ∷ [])
+
+-- node i in the buffers a after a listing by the weights m
+pub record NodeListed (m : List ℕ) (N n : ℕ) (F : ℕ → ℕ → Bool) (R : ℕ) (a : Lent) (i : ℕ) : Type 0 where
   -- its count is the number of its prime implicants and of its entries, and no count is above the last node's
-  pub number : getD (a .counts) i 0 ≡ length (nodePrimes N F i)
+  pub number : getD (a .counts) i 0 ≡ length (nodePrimes m N F i)
   pub entries : length (entriesAt R a i) ≡ getD (a .counts) i 0
   pub most : getD (a .counts) i 0 ≤ getD (a .counts) (pred n) 0
   -- its entries are prime implicants of its function, and all of them, in order and so each once
   pub only : (t : Term) → List·Memᴰ t (entriesAt R a i) → Prime N (F i) t
   pub every : (t : Term) → Prime N (F i) t → List·Memᴰ t (entriesAt R a i)
-  pub order : Rising before (entriesAt R a i)
+  pub order : Rising (before m) (entriesAt R a i)
+  -- with every weight 0 that is the order without weights
+  pub unweighted : ((x : ℕ) → x < N → getD m x 0 ≡ 0) → Rising byLiterals (entriesAt R a i)
   -- the other entries of its part are 0
   pub unused : (j : ℕ) → getD (a .counts) i 0 ≤ j → j < R
       → (getD (a .positives) (i * R + j) 0 ≡ 0) × (getD (a .negatives) (i * R + j) 0 ≡ 0)
 
 -- such a listing
-pub record Listed (N n : ℕ) (F : ℕ → ℕ → Bool) (R : ℕ) (o : ListOut) : Type 0 where
+pub record Listed (m : List ℕ) (N n : ℕ) (F : ℕ → ℕ → Bool) (R : ℕ) (o : ListOut) : Type 0 where
   -- 42 exactly if the circuit, its last node, has more prime implicants than R
-  pub lack : o .answer ≡ refused 42 0 → R < length (nodePrimes N F (pred n))
-  pub lacking : R < length (nodePrimes N F (pred n)) → o .answer ≡ refused 42 0
+  pub lack : o .answer ≡ refused 42 0 → R < length (nodePrimes m N F (pred n))
+  pub lacking : R < length (nodePrimes m N F (pred n)) → o .answer ≡ refused 42 0
   -- otherwise it is done, and every node is listed
-  pub done : length (nodePrimes N F (pred n)) ≤ R → o .answer ≡ answered tt
-  pub nodes : length (nodePrimes N F (pred n)) ≤ R → (i : ℕ) → i < n → NodeListed N n F R (o .after) i
+  pub done : length (nodePrimes m N F (pred n)) ≤ R → o .answer ≡ answered tt
+  pub nodes : length (nodePrimes m N F (pred n)) ≤ R → (i : ℕ) → i < n → NodeListed m N n F R (o .after) i
 
 -- both listings: of the nodes' functions (prime implicants, "clearances"), and of their negations ("blockers")
 pub record WholeListing : Type 0 where
-  pub functions : (N n : ℕ) (w : List ℕ) (R : ℕ) (b : Lent) → Asked N n w R b → Listed N n (function w) R (listTable true N n w R b)
-  pub negations : (N n : ℕ) (w : List ℕ) (R : ℕ) (b : Lent) → Asked N n w R b
-      → Listed N n (λ i s. not (function w i s)) R (listTable false N n w R b)
+  pub functions : (m : List ℕ) (N n : ℕ) (w : List ℕ) (R : ℕ) (b : Lent) → Asked m N n w R b
+      → Listed m N n (function w) R (listTable true m N n w R b)
+  pub negations : (m : List ℕ) (N n : ℕ) (w : List ℕ) (R : ℕ) (b : Lent) → Asked m N n w R b
+      → Listed m N n (λ i s. not (function w i s)) R (listTable false m N n w R b)

@@ -103,7 +103,7 @@ module _ (s : Bool → List ℕ) (ev : Even s) (count : ℕ) (h : count ≤ leng
 
   -- ---- what an insertion leaves
   module _ (t : Term) where
-    pub filled-present : insert before t (held s count) ≡ held s count → Filled (insert before t (held s count)) s s (Count count)
+    pub filled-present : insert (before []) t (held s count) ≡ held s count → Filled (insert (before []) t (held s count)) s s (Count count)
     filled-present e = subst (λ (l : List Term). Filled l s s (Count count)) (sym e) filled-none
 
     module _ (k : ℕ) (p : Placed t (held s count) (At k)) where
@@ -112,7 +112,7 @@ module _ (s : Bool → List ℕ) (ev : Even s) (count : ℕ) (h : count ≤ leng
 
       pub filled-at : (s′ : Bool → List ℕ) → count < length (s true)
           → ((b : Bool) → s′ b ≡ insertAt k (mask t b) (take count (s b)) ++ drop (count + 1) (s b))
-          → Filled (insert before t (held s count)) s s′ (Count (count + 1))
+          → Filled (insert (before []) t (held s count)) s s′ (Count (count + 1))
       filled-at s′ lt m =
           subst (λ (l : List Term). Filled l s s′ (Count (count + 1))) (sym (p .1))
           (filled-count (insertAt k t (held s count)) s s′ (count + 1) length-put (omega arith)
@@ -120,7 +120,7 @@ module _ (s : Bool → List ℕ) (ev : Even s) (count : ℕ) (h : count ≤ leng
           ∙ ap (λ (z : List ℕ). z ++ drop (count + 1) (s b))
           (sym (map-insertAt (λ t. mask t b) k t (held s count) ∙ ap (insertAt k (mask t b)) (masks-held s ev count h b)))))
 
-      pub filled-over : length (s true) ≤ count → Filled (insert before t (held s count)) s s Full
+      pub filled-over : length (s true) ≤ count → Filled (insert (before []) t (held s count)) s s Full
       filled-over le =
           subst (λ (l : List Term). Filled l s s Full) (sym (p .1))
           (filled-full (insertAt k t (held s count)) s s (omega (arith, length-put)))

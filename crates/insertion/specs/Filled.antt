@@ -2,7 +2,7 @@
 use Prim.Native.Nat.{ℕ, _<_, _≤_}
 use mathlib.Core.Path.{_≡_}
 use mathlib.Core.Bool.{Bool, true, false, cond}
-use mathlib.Core.List.{List, _∷_, _++_, map}
+use mathlib.Core.List.{List, [], _∷_, _++_, map}
 use lib.Dec.{leb}
 use lib.ListN.{length, getD, take, drop}
 use Rattle.terms.specs.Lists.{insert}
@@ -20,12 +20,12 @@ insertAt k v l = take k l ++ v ∷ drop k l
 
 -- neither comes before the other: terms over some variables are then the same
 abbrev pub Level : Term → Term → Type 0
-Level t u = (before t u ≡ false) × (before u t ≡ false)
+Level t u = (before [] t u ≡ false) × (before [] u t ≡ false)
 
 -- what a search for the place of t finds
 abbrev pub Placed : Term → List Term → Place → Type 0
-Placed t l (Present k) = (k < length l) × Level t (getD l k empty) × (insert before t l ≡ l)
-Placed t l (At k) = (k ≤ length l) × (insert before t l ≡ insertAt k t l)
+Placed t l (Present k) = (k < length l) × Level t (getD l k empty) × (insert (before []) t l ≡ l)
+Placed t l (At k) = (k ≤ length l) × (insert (before []) t l ≡ insertAt k t l)
 
 -- the two slices by sign: the positive masks for true
 abbrev pub bySign : List ℕ → List ℕ → Bool → List ℕ

@@ -8,8 +8,7 @@ use lib.ListN.{length}
 use Rattle.terms.specs.Lists.{insert, Rising}
 use Rattle.terms.specs.Order.{before}
 use Rattle.terms.specs.declared.Term.{Term}
-use Rattle.terms.proofs.Listed.{before-irrefl, before-trans}
-use Rattle.terms.proofs.Sorted.{insert-rising}
+use Rattle.terms.proofs.Listed.{inserted-rising}
 use Rattle.insertion.specs.Filled.{Filled}
 use Rattle.insertion.specs.declared.Kept.{Kept}
 use Rattle.insertion.specs.declared.Kept.the-variants.{Count, Full}
@@ -20,16 +19,16 @@ use Rattle.joins.specs.Added.{insertAll, Added}
 
 pub insertAll-append : (l k acc : List Term) → insertAll (l ++ k) acc ≡ insertAll k (insertAll l acc)
 insertAll-append [] k acc = refl
-insertAll-append (t ∷ l) k acc = insertAll-append l k (insert before t acc)
+insertAll-append (t ∷ l) k acc = insertAll-append l k (insert (before []) t acc)
 
 pub length-insertAll : (l acc : List Term) → length acc ≤ length (insertAll l acc)
 length-insertAll [] acc = le-refl (length acc)
-length-insertAll (t ∷ l) acc = le-trans (length-insert t acc) (length-insertAll l (insert before t acc))
+length-insertAll (t ∷ l) acc = le-trans (length-insert t acc) (length-insertAll l (insert (before []) t acc))
 
 -- they stay in order
-pub rises : (l acc : List Term) → Rising before acc → Rising before (insertAll l acc)
+pub rises : (l acc : List Term) → Rising (before []) acc → Rising (before []) (insertAll l acc)
 rises [] acc r = r
-rises (t ∷ l) acc r = rises l (insert before t acc) (insert-rising before before-irrefl before-trans t acc r)
+rises (t ∷ l) acc r = rises l (insert (before []) t acc) (inserted-rising [] t acc r)
 
 -- ---- the list m was made in the front of s₀, which is s then
 module _ (m : List Term) (s₀ s : Bool → List ℕ) (ev : Even s₀) (c : ℕ) (f : Filled m s₀ s (Count c)) where

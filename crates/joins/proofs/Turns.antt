@@ -31,7 +31,7 @@ pub record Steps : Type 0 where
 pub record Turn (m : Steps) (ps ns : List ℕ) (whole : List Term) (s₀ s : Bool → List ℕ) (count k : ℕ) : Type 0 where
   pub within : k ≤ length ps
   pub holds : Filled (held s count) s₀ s (Count count)
-  pub rising : Rising before (held s count)
+  pub rising : Rising (before []) (held s count)
   pub left : insertAll (m .all (drop k (termsOf ps ns))) (held s count) ≡ whole
 
 -- all terms of the list inserted into those that s held
@@ -39,7 +39,7 @@ abbrev pub allMade : Steps → List ℕ → List ℕ → (Bool → List ℕ) →
 allMade m ps ns s start = insertAll (m .all (termsOf ps ns)) (held s start)
 
 pub turn-start : (m : Steps) (ps ns : List ℕ) (s : Bool → List ℕ) → Even s → (start : ℕ) → start ≤ length (s true)
-    → Rising before (held s start) → Turn m ps ns (allMade m ps ns s start) s s start 0
+    → Rising (before []) (held s start) → Turn m ps ns (allMade m ps ns s start) s s start 0
 turn-start m ps ns s ev start h r = record { within = zero-le; holds = filled-none s ev start h; rising = r; left = refl }
 
 module _ (m : Steps) (ps ns : List ℕ) (e : length ns ≡ length ps) (whole : List Term) (s₀ s : Bool → List ℕ) (ev : Even s₀)
@@ -87,7 +87,7 @@ module _ (m : Steps) (ps ns : List ℕ) (e : length ns ≡ length ps) (whole : L
         record {
           within = omega arith;
           holds = subst (λ (z : List Term). Filled z s₀ s′ (Count c)) (sym is) made;
-          rising = subst (Rising before) (sym is) (rises (m .one (termAt ps ns k)) (held s count) (now .rising));
+          rising = subst (Rising (before [])) (sym is) (rises (m .one (termAt ps ns k)) (held s count) (now .rising));
           left = ap (insertAll (m .all rest)) is ∙ left-next;
         }
 

@@ -11,7 +11,7 @@ use Rattle.insertion.specs.declared.Kept.{Kept}
 -- the terms of l inserted into acc, one after the other
 abbrev pub insertAll : List Term → List Term → List Term
 insertAll [] acc = acc
-insertAll (t ∷ l) acc = insertAll l (insert before t acc)
+insertAll (t ∷ l) acc = insertAll l (insert (before []) t acc)
 
 -- the list l was to be inserted into the terms that the first count entries of s hold
 abbrev pub Added : List Term → (Bool → List ℕ) → ℕ → (Bool → List ℕ) → Kept → Type 0

@@ -15,7 +15,7 @@ use terms::Term;
 // Adds the join of two terms, if they have no conflict.
 fn add_join(positives: &mut [u64], negatives: &mut [u64], count: usize, t: Term, u: Term) -> Kept
     requires { ⌜ (count ≤ length (now positives)) × (length (now negatives) ≡ length (now positives))
-        × Rising before (held (bySign (now positives) (now negatives)) count) ⌝ }
+        × Rising (before []) (held (bySign (now positives) (now negatives)) count) ⌝ }
     ensures { λ r. ⌜ Added (joinsWith t (u ∷ [])) (bySign (now (positives .entry)) (now (negatives .entry))) count
         (bySign (now (positives .exit)) (now (negatives .exit))) r ⌝ }
 {
@@ -35,7 +35,7 @@ fn join_each(
     t: Term,
 ) -> Kept
     requires { ⌜ (start ≤ length (now positives)) × (length (now negatives) ≡ length (now positives))
-        × Rising before (held (bySign (now positives) (now negatives)) start) ⌝ }
+        × Rising (before []) (held (bySign (now positives) (now negatives)) start) ⌝ }
     requires { ⌜ length (now ln) ≡ length (now lp) ⌝ }
     ensures { λ r. ⌜ Added (joinsWith t (termsOf (now (lp .entry)) (now (ln .entry))))
         (bySign (now (positives .entry)) (now (negatives .entry))) start

@@ -2,3 +2,4 @@ pub mod Table
 pub mod Bounds
 pub mod Answers
 pub mod NodeParts
+pub mod Arranged

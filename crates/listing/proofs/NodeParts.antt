@@ -2,7 +2,7 @@
 use Prim.Native.Nat.{ℕ, _+_, _*_, _≤_, _<_}
 use mathlib.Core.Path.{_≡_, sym, ap, subst, _∙_}
 use mathlib.Core.Bool.{Bool, true, false}
-use mathlib.Core.List.{List}
+use mathlib.Core.List.{List, []}
 use native.Mathlib.Nat.{le-refl, le-trans, le-of-eq, mul-le-mul-right, suc-mul}
 use native.Mathlib.Numerals.{add-one}
 use native.Mathlib.Omega.{arith}
@@ -24,7 +24,7 @@ use Rattle.listing.proofs.Bounds.{nodes-le}
 use Rattle.listing.proofs.Table.{State, state-length, state-counts, count-le, terms-back}
 
 module _ {N n : ℕ} {w : List ℕ} (acc : Accepted N n w) (c : Bool) {R i : ℕ} {s : Bool → List ℕ} {cs : List ℕ}
-    (st : State N (signedFunction c w) R n i s cs) (lt : i < n) (small : R ≤ maxCapacity) where
+    (st : State [] N (signedFunction c w) R n i s cs) (lt : i < n) (small : R ≤ maxCapacity) where
   -- the part of a node up to i stands in the buffers
   pub part-fits : (a : ℕ) → a ≤ i → (b : Bool) → a * R + R ≤ length (s b)
   part-fits a h b =
@@ -77,11 +77,11 @@ module _ {N n : ℕ} {w : List ℕ} (acc : Accepted N n w) (c : Bool) {R i : ℕ
         }
 
     -- the sign of the part is that of the listing
-    signs : (d : ℕ) → nodePrimes N (signedFunction (p .sign) w) d ≡ nodePrimes N (signedFunction c w) d
-    signs d = ap (λ (b : Bool). nodePrimes N (signedFunction b w) d) (is .sign-is)
+    signs : (d : ℕ) → nodePrimes [] N (signedFunction (p .sign) w) d ≡ nodePrimes [] N (signedFunction c w) d
+    signs d = ap (λ (b : Bool). nodePrimes [] N (signedFunction b w) d) (is .sign-is)
 
     listed : (j : ℕ) → j < p .children .count
-        → childTerms s cs p j ≡ nodePrimes N (signedFunction (p .sign) w) (getD (p .children .nodes) j 0)
+        → childTerms s cs p j ≡ nodePrimes [] N (signedFunction (p .sign) w) (getD (p .children .nodes) j 0)
     listed j l =
         let d : ℕ = getD (p .children .nodes) j 0 in
         ap (λ (from : ℕ). termsFrom s from (childSize cs p j)) (from-is j) ∙ terms-back st lt d (children .each j l) ∙ sym (signs d)
@@ -89,5 +89,5 @@ module _ {N n : ℕ} {w : List ℕ} (acc : Accepted N n w) (c : Bool) {R i : ℕ
     pub part-given : NodeGiven (p .sign) (p .gate) (childTerms s cs p) (places (p .gate) (p .children .count))
     part-given = given acc i lt s cs p (is .node) part-lies listed
 
-    pub part-made : nodeMade (p .sign) (p .gate) (p .children .count) (childTerms s cs p) ≡ nodePrimes N (signedFunction c w) i
+    pub part-made : nodeMade (p .sign) (p .gate) (p .children .count) (childTerms s cs p) ≡ nodePrimes [] N (signedFunction c w) i
     part-made = made-exact acc i lt s cs p (is .node) part-lies listed ∙ signs i

@@ -1,5 +1,5 @@
 -- The listing of the prime implicants ("clearances") of every node, or of every node's negation ("blockers"), in lent buffers, and
--- the view of one node's. F is the function of each node that is listed.
+-- the view of one node's. F is the function of each node that is listed, and m has the weights of the variables ("minutes").
 use Prim.Native.Nat.{ℕ, pred, _-_, _+_, _*_}
 use mathlib.Core.Path.{_≡_}
 use mathlib.Core.Bool.{Bool, true, false, _&&_, cond}
@@ -12,6 +12,7 @@ use Rattle.table.specs.Outcome.{Outcome, answered, refused, refusedBy}
 use Rattle.terms.specs.Prime.{primes}
 use Rattle.terms.specs.Term.{mask}
 use Rattle.terms.specs.declared.Term.{Term}
+use Rattle.weighing.specs.Weights.{fitting}
 use Rattle.circuits.specs.Check.{check}
 use Rattle.circuits.specs.Function.{signedFunction}
 use Rattle.lists.specs.Capacity.{maxCapacity}
@@ -19,8 +20,8 @@ use Rattle.listing.specs.declared.Listing.{Listing}
 use Rattle.listing.specs.declared.Listing.the-variants.{Listed, Refused}
 
 -- the prime implicants of node i over N variables, in order
-abbrev pub nodePrimes : ℕ → (ℕ → ℕ → Bool) → ℕ → List Term
-nodePrimes N F i = primes N (F i)
+abbrev pub nodePrimes : List ℕ → ℕ → (ℕ → ℕ → Bool) → ℕ → List Term
+nodePrimes m N F i = primes m N (F i)
 
 -- the masks of a node with zeros up to the capacity R ("room");
 -- no node of a listing that is done has more than R, so nothing stands past R
@@ -28,12 +29,12 @@ abbrev pub padded : ℕ → List ℕ → List ℕ
 padded R l = l ++ replicate (R - length l) 0
 
 -- the first n × R entries of a row buffer: for each node in turn the masks of sign b of its prime implicants, in its own part
-unfoldable pub listedMasks : ℕ → ℕ → (ℕ → ℕ → Bool) → ℕ → Bool → List ℕ
-listedMasks N n F R b = flatMap (λ i. padded R (map (λ t. mask t b) (nodePrimes N F i))) (below n)
+unfoldable pub listedMasks : List ℕ → ℕ → ℕ → (ℕ → ℕ → Bool) → ℕ → Bool → List ℕ
+listedMasks m N n F R b = flatMap (λ i. padded R (map (λ t. mask t b) (nodePrimes m N F i))) (below n)
 
 -- the first n counts
-unfoldable pub listedCounts : ℕ → ℕ → (ℕ → ℕ → Bool) → List ℕ
-listedCounts N n F = map (λ i. length (nodePrimes N F i)) (below n)
+unfoldable pub listedCounts : List ℕ → ℕ → ℕ → (ℕ → ℕ → Bool) → List ℕ
+listedCounts m N n F = map (λ i. length (nodePrimes m N F i)) (below n)
 
 -- the lent buffers: the positive and the negative masks of the terms ("rows"), and the counts
 pub record Lent : Type 0 where
@@ -50,8 +51,8 @@ suffices n R b =
     leb R maxCapacity && leb (n * R) (length (b .positives)) && leb (n * R) (length (b .negatives)) && leb n (length (b .counts))
 
 -- 42: the circuit, which is the last node, has more prime implicants than R ("lack of rows")
-unfoldable pub exceeds : ℕ → ℕ → (ℕ → ℕ → Bool) → ℕ → Bool
-exceeds N n F R = ltb R (length (nodePrimes N F (pred n)))
+unfoldable pub exceeds : List ℕ → ℕ → ℕ → (ℕ → ℕ → Bool) → ℕ → Bool
+exceeds m N n F R = ltb R (length (nodePrimes m N F (pred n)))
 
 -- the answer, with the buffers afterwards
 pub record ListOut : Type 0 where
@@ -73,24 +74,25 @@ cleared n R b =
     }
 
 -- done: the masks and counts that are listed, the rest as it was
-abbrev pub filled : ℕ → ℕ → (ℕ → ℕ → Bool) → ℕ → Lent → ListOut
-filled N n F R b =
+abbrev pub filled : List ℕ → ℕ → ℕ → (ℕ → ℕ → Bool) → ℕ → Lent → ListOut
+filled m N n F R b =
     record {
       answer = answered tt;
       after =
-          lent (listedMasks N n F R true ++ drop (n * R) (b .positives)) (listedMasks N n F R false ++ drop (n * R) (b .negatives))
-          (listedCounts N n F ++ drop n (b .counts));
+          lent (listedMasks m N n F R true ++ drop (n * R) (b .positives)) (listedMasks m N n F R false ++ drop (n * R) (b .negatives))
+          (listedCounts m N n F ++ drop n (b .counts));
     }
 
--- by the answer of the check: 21 to 25, then 41, then 42
-abbrev pub listChecked : ℕ → ℕ → (ℕ → ℕ → Bool) → ℕ → Lent → Outcome (Unit {0}) → ListOut
-listChecked N n F R b (refused k i) = untouched k i b
-listChecked N n F R b (answered u) =
-    cond (suffices n R b) (cond (exceeds N n F R) (cleared n R b) (filled N n F R b)) (untouched 41 0 b)
+-- by the answer of the check: 21 to 25, then 41, then 56, then 42
+abbrev pub listChecked : List ℕ → ℕ → ℕ → (ℕ → ℕ → Bool) → ℕ → Lent → Outcome (Unit {0}) → ListOut
+listChecked m N n F R b (refused k i) = untouched k i b
+listChecked m N n F R b (answered u) =
+    cond (suffices n R b) (cond (fitting N m) (cond (exceeds m N n F R) (cleared n R b) (filled m N n F R b)) (untouched 56 0 b))
+    (untouched 41 0 b)
 
 -- listing into the buffers b: the nodes' functions where the sign c is true, their negations where it is false
-unfoldable pub listTable : Bool → ℕ → ℕ → List ℕ → ℕ → Lent → ListOut
-listTable c N n w R b = listChecked N n (signedFunction c w) R b (check N n w)
+unfoldable pub listTable : Bool → List ℕ → ℕ → ℕ → List ℕ → ℕ → Lent → ListOut
+listTable c m N n w R b = listChecked m N n (signedFunction c w) R b (check N n w)
 
 -- the number and the node of each answer of the code
 abbrev pub listed : Listing → Outcome (Unit {0})
@@ -98,11 +100,11 @@ listed Listed = answered tt
 listed (Refused r) = refusedBy r
 
 -- what the listing answers, and what it leaves in each buffer, for all inputs
-pub record ListResult (c : Bool) (N n : ℕ) (w : List ℕ) (R : ℕ) (b b′ : Lent) (r : Listing) : Type 0 where
-  pub answer : listed r ≡ listTable c N n w R b .answer
-  pub positives : b′ .positives ≡ listTable c N n w R b .after .positives
-  pub negatives : b′ .negatives ≡ listTable c N n w R b .after .negatives
-  pub counts : b′ .counts ≡ listTable c N n w R b .after .counts
+pub record ListResult (c : Bool) (m : List ℕ) (N n : ℕ) (w : List ℕ) (R : ℕ) (b b′ : Lent) (r : Listing) : Type 0 where
+  pub answer : listed r ≡ listTable c m N n w R b .answer
+  pub positives : b′ .positives ≡ listTable c m N n w R b .after .positives
+  pub negatives : b′ .negatives ≡ listTable c m N n w R b .after .negatives
+  pub counts : b′ .counts ≡ listTable c m N n w R b .after .counts
 
 -- the c entries of node i's part of a row buffer; none where i is above 1,023, R above 4,096, c above R, or they pass the end
 abbrev pub viewed : List ℕ → ℕ → ℕ → ℕ → List ℕ

@@ -10,8 +10,13 @@ ghost use Rattle.circuits.specs.Function.{signedFunction};
 ghost use Rattle.lists.specs.Capacity.{maxCapacity};
 ghost use Rattle.insertion.specs.Filled.{bySign};
 ghost use Rattle.nodes.specs.Part.{HasPlace};
+ghost use Rattle.weighing.specs.Weights.{fitting};
 ghost use Rattle.listing.specs.Exact.{smallCapacity, Zeroed, Tried, Exact};
 ghost use Rattle.listing.specs.Listing.{lent, ListResult, suffices, viewed};
+
+mod arrange;
+
+use arrange::arrange_all;
 use buffers::zero_masks;
 use buffers::zero_words;
 use insertion::Kept;
@@ -21,7 +26,7 @@ use table::MAX_NODES;
 use table::Refusal;
 
 // The capacity up to which scratch is small.
-const SMALL: usize = 256;
+pub const SMALL: usize = 256;
 
 // What a listing answers; specs/Listing.antt has the scope's numbers.
 pub enum Listing {
@@ -62,11 +67,11 @@ fn clear(positives: &mut [u64], negatives: &mut [u64], counts: &mut [u32])
 
 // What is listed: the nodes' functions or, where the sign is false, their negations; how many variables and nodes the circuit has, and
 // the capacity of a node's part.
-struct Shape {
-    sign: bool,
-    variables: u32,
-    nodes: usize,
-    capacity: usize,
+pub struct Shape {
+    pub sign: bool,
+    pub variables: u32,
+    pub nodes: usize,
+    pub capacity: usize,
 }
 
 // Fills the nodes' parts of buffers of zeros, the lowest node first; false where a node has more terms than the capacity.
@@ -182,16 +187,19 @@ fn list_exact(
     negatives: &mut [u64],
     counts: &mut [u32],
     words: &[u32],
+    weights: &[u32],
     shape: Shape,
 ) -> bool
     requires { ⌜ (check (shape .variables) (shape .nodes) (now words) ≡ accepted) × (shape .capacity ≤ maxCapacity)
-        × (length (now counts) ≡ shape .nodes) ⌝ }
+        × (length (now counts) ≡ shape .nodes) × (fitting (shape .variables) (now weights) ≡ true) ⌝ }
     requires { ⌜ (length (now positives) ≡ shape .nodes * shape .capacity) × (length (now negatives) ≡ shape .nodes * shape .capacity) ⌝ }
-    ensures { λ r. ⌜ Exact (shape .variables) (shape .nodes) (signedFunction (shape .sign) (now (words .entry))) (shape .capacity)
+    ensures { λ r. ⌜ Exact (now (weights .entry)) (shape .variables) (shape .nodes)
+        (signedFunction (shape .sign) (now (words .entry))) (shape .capacity)
         (bySign (now (positives .exit)) (now (negatives .exit))) (now (counts .exit)) r ⌝ }
 {
     clear(positives, negatives, counts);
     if fill_all(positives, negatives, counts, words, shape) {
+        arrange_all(positives, negatives, counts, weights, shape);
         return true;
     }
     clear(positives, negatives, counts);
@@ -216,37 +224,34 @@ fn is_enough(
     (total <= positives.len()) & (total <= negatives.len()) & (n <= counts.len())
 }
 
-// Lists the prime implicants of an accepted circuit's nodes, or of their negations: 41 and 42.
+// Lists the prime implicants of an accepted circuit's nodes, or of their negations: 41, 56 and 42.
 pub fn list_accepted(
     positives: &mut [u64],
     negatives: &mut [u64],
     counts: &mut [u32],
     words: &[u32],
-    variables: u32,
-    n: usize,
-    capacity: usize,
-    sign: bool,
+    weights: &[u32],
+    shape: Shape,
 ) -> Listing
-    requires { ⌜ check variables n (now words) ≡ accepted ⌝ }
-    ensures { λ r. ⌜ ListResult sign variables n (now (words .entry)) capacity
+    requires { ⌜ check (shape .variables) (shape .nodes) (now words) ≡ accepted ⌝ }
+    ensures { λ r. ⌜ ListResult (shape .sign) (now (weights .entry)) (shape .variables) (shape .nodes) (now (words .entry)) (shape .capacity)
         (lent (now (positives .entry)) (now (negatives .entry)) (now (counts .entry)))
         (lent (now (positives .exit)) (now (negatives .exit)) (now (counts .exit))) r ⌝ }
 {
-    if !is_enough(positives, negatives, counts, n, capacity) {
+    let n = shape.nodes;
+    if !is_enough(positives, negatives, counts, n, shape.capacity) {
         return Listing::Refused(Refusal::Buffers);
     }
-    let total = n * capacity;
-    let shape = Shape {
-        sign,
-        variables,
-        nodes: n,
-        capacity,
-    };
+    if !weighing::fit(weights, shape.variables) {
+        return Listing::Refused(Refusal::Weights);
+    }
+    let total = n * shape.capacity;
     if list_exact(
         &mut positives[..total],
         &mut negatives[..total],
         &mut counts[..n],
         words,
+        weights,
         shape,
     ) {
         return Listing::Listed;
@@ -254,37 +259,33 @@ pub fn list_accepted(
     Listing::Refused(Refusal::Capacity)
 }
 
-// Lists the prime implicants of every node, or of its negation where the sign is false: those of node i from entry i × capacity on,
-// and their number at entry i of the counts.
+// Lists the prime implicants of every node, or of its negation where the sign is false: those of node i from entry i × capacity on, in
+// order by the weights, and their number at entry i of the counts.
 fn list_signed(
     positives: &mut [u64],
     negatives: &mut [u64],
     counts: &mut [u32],
     words: &[u32],
+    weights: &[u32],
     variables: u32,
     nodes: u32,
     capacity: u32,
     sign: bool,
 ) -> Listing
-    ensures { λ r. ⌜ ListResult sign variables nodes (now (words .entry)) capacity
+    ensures { λ r. ⌜ ListResult sign (now (weights .entry)) variables nodes (now (words .entry)) capacity
         (lent (now (positives .entry)) (now (negatives .entry)) (now (counts .entry)))
         (lent (now (positives .exit)) (now (negatives .exit)) (now (counts .exit))) r ⌝ }
 {
     match checks::check(words, variables, nodes) {
         Checked::Refused(refusal) => Listing::Refused(refusal),
         Checked::Accepted => {
-            let n = nodes as usize;
-            let size = capacity as usize;
-            list_accepted(
-                positives,
-                negatives,
-                counts,
-                words,
-                variables,
-                n,
-                size,
+            let shape = Shape {
                 sign,
-            )
+                variables,
+                nodes: nodes as usize,
+                capacity: capacity as usize,
+            };
+            list_accepted(positives, negatives, counts, words, weights, shape)
         }
     }
 }
@@ -295,11 +296,12 @@ pub fn list(
     negatives: &mut [u64],
     counts: &mut [u32],
     words: &[u32],
+    weights: &[u32],
     variables: u32,
     nodes: u32,
     capacity: u32,
 ) -> Listing
-    ensures { λ r. ⌜ ListResult true variables nodes (now (words .entry)) capacity
+    ensures { λ r. ⌜ ListResult true (now (weights .entry)) variables nodes (now (words .entry)) capacity
         (lent (now (positives .entry)) (now (negatives .entry)) (now (counts .entry)))
         (lent (now (positives .exit)) (now (negatives .exit)) (now (counts .exit))) r ⌝ }
 {
@@ -308,6 +310,7 @@ pub fn list(
         negatives,
         counts,
         words,
+        weights,
         variables,
         nodes,
         capacity,
@@ -321,11 +324,12 @@ pub fn list_negation(
     negatives: &mut [u64],
     counts: &mut [u32],
     words: &[u32],
+    weights: &[u32],
     variables: u32,
     nodes: u32,
     capacity: u32,
 ) -> Listing
-    ensures { λ r. ⌜ ListResult false variables nodes (now (words .entry)) capacity
+    ensures { λ r. ⌜ ListResult false (now (weights .entry)) variables nodes (now (words .entry)) capacity
         (lent (now (positives .entry)) (now (negatives .entry)) (now (counts .entry)))
         (lent (now (positives .exit)) (now (negatives .exit)) (now (counts .exit))) r ⌝ }
 {
@@ -334,6 +338,7 @@ pub fn list_negation(
         negatives,
         counts,
         words,
+        weights,
         variables,
         nodes,
         capacity,

@@ -4,13 +4,14 @@ use mathlib.Core.Path.{_≡_, refl, sym, ap, ap₂, _∙_}
 use mathlib.Core.Bool.{Bool, true, false, _&&_, _||_, not, cond, xor, or-true, or-false}
 use mathlib.Core.Logic.{_⊎_, ⊎-elim}
 use native.Mathlib.Nat.{mul-comm, one-mul, pow-suc, div-one, div-div-eq-div-mul, lt-of-le-of-lt, lt-of-lt-of-le}
+use native.Mathlib.Nat.{not-suc-le-zero, le-of-suc-le-suc}
 use native.Mathlib.Omega.{arith}
-use native.Mathlib.Numerals.{one-add}
+use native.Mathlib.Numerals.{one-add, add-one}
 use lib.Dec.{T, T-not, not-T, eqb, eqb→eq, lit<, eqb·zero-suc, eqb·suc-zero, eqb·suc-suc}
 use lib.Bits.{bitAnd, bitOr, bitXor, differ, and-step, or-step, xor-step, and-le-l, and-lt, or-lt, xor-lt}
-use lib.Pow.{pow-pos, pow-lt, pow-mono, shl-exact}
+use lib.Pow.{pow-pos, pow-lt, pow-mono, shl-exact, shr-shr, mod-pow-add}
 use lib.Count.{ones, ones-step}
-use lib.Arith.{lt-one}
+use lib.Arith.{lt-one, digits-div, digits-mod}
 use borrow.Author.Tests.{eq-eqb}
 use Rattle.masks.specs.Mask.{width, bit, put, size, subset, disjoint}
 use Rattle.masks.specs.Numbers.{digit, implied, count}
@@ -59,6 +60,35 @@ bit-shift m (suc i) =
     bit-shift (m / 2) i
     ∙ ap (λ (x : ℕ). eqb (x % 2) 1)
     (div-div-eq-div-mul m 2 (2 ^ i) ∙ ap (λ (x : ℕ). m / x) (mul-comm 2 (2 ^ i) ∙ sym (pow-suc 2 i)))
+
+-- the bits from j on
+pub bit-div : (m j i : ℕ) → bit (m / 2 ^ j) i ≡ bit m (j + i)
+bit-div m j i = bit-shift (m / 2 ^ j) i ∙ ap (λ (x : ℕ). eqb (x % 2) 1) (shr-shr m j i) ∙ sym (bit-shift m (j + i))
+
+-- the bits below n
+mod-digits : (n m : ℕ) → m % 2 ^ suc n ≡ m / 2 % 2 ^ n * 2 + m % 2
+mod-digits n m = ap (λ (k : ℕ). m % 2 ^ k) (sym (add-one n)) ∙ mod-pow-add m n 1
+
+pub bit-mod : (n m i : ℕ) → i < n → bit (m % 2 ^ n) i ≡ bit m i
+unfolding bit
+bit-mod zero m i l = absurd (not-suc-le-zero l)
+bit-mod (suc n) m zero l = ap (λ (x : ℕ). bit x 0) (mod-digits n m) ∙ bit-low (m / 2 % 2 ^ n) (m % 2) (mod2 m)
+bit-mod (suc n) m (suc i) l =
+    ap (λ (x : ℕ). bit x (suc i)) (mod-digits n m)
+    ∙ bit-rest (m / 2 % 2 ^ n) (m % 2) i (mod2 m)
+    ∙ bit-mod n (m / 2) i (le-of-suc-le-suc l)
+
+-- bit n above a mask of n bits
+module _ (n d : ℕ) (h : d < 2 ^ n) where
+  pub added-below : (i : ℕ) → i < n → bit (2 ^ n + d) i ≡ bit d i
+  added-below i l =
+      sym (bit-mod n (2 ^ n + d) i l)
+      ∙ ap (λ (x : ℕ). bit x i) (ap (λ (x : ℕ). (x + d) % 2 ^ n) (sym (one-mul (2 ^ n))) ∙ digits-mod 1 h)
+
+  pub added-here : bit (2 ^ n + d) n ≡ true
+  added-here =
+      bit-shift (2 ^ n + d) n
+      ∙ ap (λ (x : ℕ). eqb (x % 2) 1) (ap (λ (x : ℕ). (x + d) / 2 ^ n) (sym (one-mul (2 ^ n))) ∙ digits-div 1 h)
 
 -- `1 << i` at k bits
 pub one-shift : (k i : ℕ) → i < k → (1 * 2 ^ i) % 2 ^ k ≡ 2 ^ i

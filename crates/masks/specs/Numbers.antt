@@ -29,6 +29,11 @@ unfoldable pub count : ℕ → (ℕ → Bool) → ℕ
 count zero p = 0
 count (suc n) p = count n p + digit (p n)
 
+-- the sum of f over the numbers below n
+unfoldable pub total : ℕ → (ℕ → ℕ) → ℕ
+total zero f = 0
+total (suc n) f = total n f + f n
+
 -- the least number below n that passes the test p; n where none does
 unfoldable pub least : ℕ → (ℕ → Bool) → ℕ
 least zero p = 0

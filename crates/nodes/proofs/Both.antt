@@ -21,7 +21,7 @@ swapped {a} {b} h t m =
     joins-in b a (j .right) (j .left) t (j .in-right) (j .in-left)
     (joined-free (h .variables) (h .wide) (j .right) (j .left) (subst (IsTerm (h .variables)) e (joins-terms (turned h) t m))) e
 
-pub both-made : {a b : List Term} → Sides a b → insertAll (joins b a) [] ≡ sort before (joins a b)
+pub both-made : {a b : List Term} → Sides a b → insertAll (joins b a) [] ≡ sort (before []) (joins a b)
 both-made {a} {b} h =
     inserted-sorted (h .variables) (joins b a) (joins a b) (joins-terms (turned h)) (swapped h) (swapped (turned h))
 

@@ -41,38 +41,38 @@ use Rattle.nodes.specs.Part.{gateMade, PairGiven, places, madeFrom, node
 use Rattle.nodes.specs.declared.NodePart.{NodePart}
 
 -- two lists of all prime implicants
-abbrev sides-of : {N n : ℕ} {w : List ℕ} → Accepted N n w → (a b : List Term) (f g : ℕ → Bool) → a ≡ primes N f → b ≡ primes N g → Sides a b
+abbrev sides-of : {N n : ℕ} {w : List ℕ} → Accepted N n w → (a b : List Term) (f g : ℕ → Bool) → a ≡ primes [] N f → b ≡ primes [] N g → Sides a b
 sides-of {N} acc a b f g q r =
     record {
       variables = N;
       wide = variables-wide acc;
       low = f;
       high = g;
-      lists-low = subst (Lists N f) (sym q) (primes-lists N f);
-      lists-high = subst (Lists N g) (sym r) (primes-lists N g);
-      rising-low = subst (Rising before) (sym q) (primes-rising N f);
-      rising-high = subst (Rising before) (sym r) (primes-rising N g);
+      lists-low = subst (Lists N f) (sym q) (primes-lists [] N f);
+      lists-high = subst (Lists N g) (sym r) (primes-lists [] N g);
+      rising-low = subst (Rising (before [])) (sym q) (primes-rising [] N f);
+      rising-high = subst (Rising (before [])) (sym r) (primes-rising [] N g);
     }
 
 module _ {N n : ℕ} {w : List ℕ} (acc : Accepted N n w) (c : Bool) where
   -- the prime implicants of a node, and of a conjunction of nodes
   abbrev rows : ℕ → List Term
-  rows d = primes N (signedFunction c w d)
+  rows d = primes [] N (signedFunction c w d)
 
   abbrev rows-all : List ℕ → List Term
-  rows-all ds = primes N (signedAll c w ds)
+  rows-all ds = primes [] N (signedAll c w ds)
 
   -- what is made of nodes with no variable in common has the prime implicants of their conjunction, or of its negation
   made-primes : (l : List ℕ) (v : ℕ → List Term) (k : ℕ) → 1 ≤ length l
       → ((j : ℕ) → j < length l → v (k + j) ≡ rows (getD l j 0)) → Apart acc l
       → madeFrom c Conjunction v k (length l) ≡ rows-all l
   made-primes [] v k some h a = absurd (omega arith)
-  made-primes (d ∷ []) v k some h a = ap v (sym (add-zero k)) ∙ h 0 (omega arith) ∙ alone-rows acc c d
+  made-primes (d ∷ []) v k some h a = ap v (sym (add-zero k)) ∙ h 0 (omega arith) ∙ alone-rows acc [] c d
   made-primes (d ∷ e ∷ l) v k some h a =
       let rest : madeFrom c Conjunction v (suc k) (length (e ∷ l)) ≡ rows-all (e ∷ l) =
       made-primes (e ∷ l) v (suc k) (omega arith)
       (λ j lt. let q : k + suc j ≡ suc k + j = omega arith in ap v (sym q) ∙ h (suc j) (omega arith)) (apart-rest acc d (e ∷ l) a) in
-      ap₂ (gateMade c Conjunction) (ap v (sym (add-zero k)) ∙ h 0 (omega arith)) rest ∙ all-rows acc d (e ∷ l) a c
+      ap₂ (gateMade c Conjunction) (ap v (sym (add-zero k)) ∙ h 0 (omega arith)) rest ∙ all-rows acc d (e ∷ l) a [] c
 
   module _ (i : ℕ) (l : i < n) (cs : Children) (long : length (cs .nodes) ≡ maxChildren) (few : cs .count ≤ maxChildren)
       (v : ℕ → List Term) (h : (j : ℕ) → j < cs .count → v j ≡ rows (getD (cs .nodes) j 0)) where
@@ -137,12 +137,12 @@ module _ {N n : ℕ} {w : List ℕ} (acc : Accepted N n w) (c : Bool) where
               subst (λ (z : List Term). length z ≤ length (made k (suc (suc m)))) (sym (after k m q))
               (subst (λ (z : List Term). length (rows-all rest) ≤ length z)
               (sym (here k m q ∙ ap rows-all s))
-              (embeds-length N (signedAll c w rest) (signedAll c w (d ∷ rest)) (rest-up acc d rest (subst (Apart acc) s (apart k)) c)))
+              (embeds-length N [] [] (signedAll c w rest) (signedAll c w (d ∷ rest)) (rest-up acc d rest (subst (Apart acc) s (apart k)) c)))
 
       conjunction-made : 2 ≤ length list → made 0 (cs .count) ≡ rows i
       conjunction-made two =
           let d : cs .count ≡ length list - 0 = omega (arith, list-long) in
-          ap (made 0) d ∙ from-place 0 (omega arith) ∙ conjunction-rows acc c i list l e
+          ap (made 0) d ∙ from-place 0 (omega arith) ∙ conjunction-rows acc [] c i list l e
 
     -- ---- by the kind of the node
     module _ (x : ℕ) where
@@ -154,12 +154,12 @@ module _ {N n : ℕ} {w : List ℕ} (acc : Accepted N n w) (c : Bool) where
 
       by-kind : (k : Kind) → T (countFits k (cs .count)) → nodeAt w i ≡ decode k x cs
           → nodeMade c (gate k x low high) (cs .count) v ≡ rows i
-      by-kind (constantKind b) fit e = constant-rows acc c i b l e
-      by-kind (literalKind b) fit e = literal-rows acc c i b x l e
+      by-kind (constantKind b) fit e = constant-rows acc [] c i b l e
+      by-kind (literalKind b) fit e = literal-rows acc [] c i b x l e
       by-kind decisionKind fit e =
           let two : cs .count ≡ 2 = eqb→eq (cs .count) 2 fit in
-          ap₂ (λ (p q : List Term). sort before (decisionTerms x p q)) (h 0 (omega arith)) (h 1 (omega arith))
-          ∙ decision-rows acc c i x low high l e
+          ap₂ (λ (p q : List Term). sort (before []) (decisionTerms x p q)) (h 0 (omega arith)) (h 1 (omega arith))
+          ∙ decision-rows acc [] c i x low high l e
       by-kind conjunctionKind fit e =
           let f : Fits N i (conjunction list) = node-fits acc i (conjunction list) l e in conjunction-made e (f .0)
       by-kind unknownKind fit e = absurd (node-fits acc i unknown l e)
@@ -168,7 +168,7 @@ module _ {N n : ℕ} {w : List ℕ} (acc : Accepted N n w) (c : Bool) where
 module _ {N n : ℕ} {w : List ℕ} (acc : Accepted N n w) (i : ℕ) (l : i < n) (s : Bool → List ℕ) (counts : List ℕ) (p : NodePart)
     (is : record { gate = p .gate; children = p .children } ≡ decodedAt w i) (lies : Laid s counts p)
     (h : (j : ℕ) → j < p .children .count
-    → childTerms s counts p j ≡ primes N (signedFunction (p .sign) w (getD (p .children .nodes) j 0))) where
+    → childTerms s counts p j ≡ primes [] N (signedFunction (p .sign) w (getD (p .children .nodes) j 0))) where
   abbrev node-of : ℕ → ℕ → Bool
   node-of = signedFunction (p .sign) w
 
@@ -205,7 +205,7 @@ module _ {N n : ℕ} {w : List ℕ} (acc : Accepted N n w) (i : ℕ) (l : i < n)
       ∙ ap (λ (z : Children). gate k (y .variable) (getD (z .nodes) 0 0) (getD (z .nodes) 1 0)) (sym same)
 
   -- what is made of it is its own
-  pub made-exact : nodeMade (p .sign) (p .gate) (cs .count) (childTerms s counts p) ≡ primes N (node-of i)
+  pub made-exact : nodeMade (p .sign) (p .gate) (cs .count) (childTerms s counts p) ≡ primes [] N (node-of i)
   made-exact =
       ap (λ (g : Gate). nodeMade (p .sign) g (cs .count) (childTerms s counts p)) gated
       ∙ by-kind acc (p .sign) i l cs long (lies .few) (childTerms s counts p) h (y .variable) k counted node
@@ -241,16 +241,16 @@ module _ {N n : ℕ} {w : List ℕ} (acc : Accepted N n w) (i : ℕ) (l : i < n)
       let a : ℕ = getD (cs .nodes) 0 0 in
       let b : ℕ = getD (cs .nodes) 1 0 in
       let f : Fits N i (decision x a b) = node-fits acc i (decision x a b) l e in
-      let q : childTerms s counts p 0 ≡ primes N (node-of a) = h 0 (omega arith) in
-      let r : childTerms s counts p 1 ≡ primes N (node-of b) = h 1 (omega arith) in
+      let q : childTerms s counts p 0 ≡ primes [] N (node-of a) = h 0 (omega arith) in
+      let r : childTerms s counts p 1 ≡ primes [] N (node-of b) = h 1 (omega arith) in
       two-lists (Decision x a b)
       (record {
         sides = sides-of acc (childTerms s counts p 0) (childTerms s counts p 1) (node-of a) (node-of b) q r;
         below = f .0;
         not-low = λ t m c k. free-unmentioned N (node-of a) x (side-free acc (p .sign) i x a b l e false) t
-            (primes-lists N (node-of a) .only t (subst (List·Memᴰ t) q m)) c k;
+            (primes-lists [] N (node-of a) .only t (subst (List·Memᴰ t) q m)) c k;
         not-high = λ t m c k. free-unmentioned N (node-of b) x (side-free acc (p .sign) i x a b l e true) t
-            (primes-lists N (node-of b) .only t (subst (List·Memᴰ t) r m)) c k;
+            (primes-lists [] N (node-of b) .only t (subst (List·Memᴰ t) r m)) c k;
       })
   given-kind conjunctionKind x fit e =
       let f : Fits N i (conjunction (childList cs)) = node-fits acc i (conjunction (childList cs)) l e in

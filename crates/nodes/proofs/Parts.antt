@@ -1,4 +1,4 @@
--- Parts of buffers that are copied, and that are filled.
+-- Parts of buffers that are filled.
 use Prim.Native.Nat.{ℕ, zero, suc, _+_, _-_, _<_, _≤_}
 use mathlib.Core.Path.{_≡_, sym, ap, ap₂, subst, _∙_}
 use mathlib.Core.Bool.{Bool, true}
@@ -14,17 +14,6 @@ use Rattle.terms.specs.declared.Term.{Term}
 use Rattle.insertion.specs.Filled.{masksOf, laid, keptOf, Filled}
 use Rattle.insertion.specs.declared.Kept.{Kept}
 use Rattle.nodes.specs.Part.{Given, laidAt, PartFilled}
-
-pub copy-more : (i at : ℕ) (to from : List ℕ) → i < length to → at + i < length from → take i to ≡ take i (drop at from)
-    → take (i + 1) (set to i (getD from (at + i) 0)) ≡ take (i + 1) (drop at from)
-copy-more i at to from h k e =
-    let d : List ℕ = drop at from in
-    let l : i < length d = rw (length-drop at from) (omega arith) in
-    ap (λ (n : ℕ). take n (set to i (getD from (at + i) 0))) (add-one i)
-    ∙ take-suc-set to i (getD from (at + i) 0) h
-    ∙ ap₂ (λ (f : List ℕ) (v : ℕ). f ++ (v ∷ [])) e (sym (getD-drop at from i 0))
-    ∙ sym (take-suc d i 0 l)
-    ∙ ap (λ (n : ℕ). take n d) (sym (add-one i))
 
 pub length-part : (at size : ℕ) (s : List ℕ) → at + size ≤ length s → length (take size (drop at s)) ≡ size
 length-part at size s h = length-take-le size (drop at s) (rw (length-drop at s) (omega arith))

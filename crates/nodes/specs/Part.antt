@@ -30,8 +30,8 @@ use Rattle.nodes.specs.declared.Terms.{Terms}
 abbrev pub gateMade : Bool → Gate → List Term → List Term → List Term
 gateMade c (Constant b) l k = cond (signed c b) (empty ∷ []) []
 gateMade c (Literal b x) l k = extend empty x (signed c b) ∷ []
-gateMade c (Decision x a b) l k = sort before (decisionTerms x l k)
-gateMade c Conjunction l k = sort before (conjunctionTerms c l k)
+gateMade c (Decision x a b) l k = sort (before []) (decisionTerms x l k)
+gateMade c Conjunction l k = sort (before []) (conjunctionTerms c l k)
 gateMade c Unknown l k = []
 
 -- two lists of prime implicants in order, and x is in none of their terms

@@ -68,7 +68,7 @@ fn conjoin(
 ) -> Kept
     requires { ⌜ SidesAt (now ap) (now an) (now bp) (now bn) × (length (now negatives) ≡ length (now positives)) ⌝ }
     ensures { λ r. ⌜ Filled
-        (sort before
+        (sort (before [])
         (conjunctionTerms sign (termsOf (now (ap .entry)) (now (an .entry))) (termsOf (now (bp .entry)) (now (bn .entry)))))
         (bySign (now (positives .entry)) (now (negatives .entry)))
         (bySign (now (positives .exit)) (now (negatives .exit))) r ⌝ }
@@ -105,18 +105,6 @@ fn make(
         Gate::Decision(x, _, _) => decisions::decision(positives, negatives, ap, an, bp, bn, x),
         Gate::Conjunction => conjoin(positives, negatives, ap, an, bp, bn, sign),
         Gate::Unknown => Kept::Count(0),
-    }
-}
-
-// Copies count entries from `at` on to the front of a buffer.
-fn copy(to: &mut [u64], from: &[u64], at: usize, count: usize)
-    requires { ⌜ (at + count ≤ length (now from)) × (count ≤ length (now to)) ⌝ }
-    ensures { λ _. ⌜ take count (now (to .exit)) ≡ take count (drop at (now (from .entry))) ⌝ }
-{
-    let mut i = 0;
-    while i < count {
-        to[i] = from[at + i];
-        i += 1;
     }
 }
 
@@ -170,10 +158,10 @@ fn fill_part(
     let end = at + part.capacity;
     let gate = part.gate;
     let sign = part.sign;
-    copy(ap, positives, low.from, ca);
-    copy(an, negatives, low.from, ca);
-    copy(bp, positives, high.from, cb);
-    copy(bn, negatives, high.from, cb);
+    buffers::copy(ap, positives, low.from, ca);
+    buffers::copy(an, negatives, low.from, ca);
+    buffers::copy(bp, positives, high.from, cb);
+    buffers::copy(bn, negatives, high.from, cb);
     make(
         &mut positives[at..end],
         &mut negatives[at..end],

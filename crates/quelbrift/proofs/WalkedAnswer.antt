@@ -11,13 +11,13 @@ use Rattle.walk.specs.declared.Walked.{Walked}
 use Rattle.walk.proofs.Records.{walk-columns}
 use Rattle.quelbrift.specs.Boundary.{answerOf, numbers}
 
-module _ (N n : ℕ) (w : List ℕ) (R : ℕ) (es : List Step) where
+module _ (m : List ℕ) (N n : ℕ) (w : List ℕ) (R : ℕ) (es : List Step) where
   -- the answer at the boundary, and the buffers afterwards
-  pub walked-columns : {b b′ : WalkLent} {r : Walked} → WalkResult N n w R (stepsIn (columns es) (length es)) b b′ r
-      → (answerOf numbers (walkedOutcome r) ≡ answerOf numbers (walkTable N n w R es b .answer)) × (b′ ≡ walkTable N n w R es b .after)
+  pub walked-columns : {b b′ : WalkLent} {r : Walked} → WalkResult m N n w R (stepsIn (columns es) (length es)) b b′ r
+      → (answerOf numbers (walkedOutcome r) ≡ answerOf numbers (walkTable m N n w R es b .answer)) × (b′ ≡ walkTable m N n w R es b .after)
   walked-columns {b} {b′} h =
-      let same : walkTable N n w R (stepsIn (columns es) (length es)) b ≡ walkTable N n w R es b = walk-columns N n w R b es in
-      let kept : b′ ≡ walkTable N n w R (stepsIn (columns es) (length es)) b .after =
+      let same : walkTable m N n w R (stepsIn (columns es) (length es)) b ≡ walkTable m N n w R es b = walk-columns m N n w R b es in
+      let kept : b′ ≡ walkTable m N n w R (stepsIn (columns es) (length es)) b .after =
       λ i. record {
         rows = record { positives = h .positives i; negatives = h .negatives i; counts = h .counts i };
         statuses = h .statuses i;

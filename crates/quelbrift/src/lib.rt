@@ -39,7 +39,7 @@ use text_assignment::assignment::AssignmentReading;
 use text_writer::writer::Written;
 
 // The version of these functions and their answers: QUELBRIFT_VERSION in the header.
-const VERSION: u32 = 5;
+const VERSION: u32 = 6;
 
 #[no_mangle]
 pub extern "C" fn quelbrift_version() -> u32
@@ -226,24 +226,25 @@ fn list_answer(r: Listing) -> Answer
     }
 }
 
-// Lists the prime implicants of every node.
+// Lists the prime implicants of every node, in order by the weights ("minutes").
 #[no_mangle]
 pub extern "C" fn quelbrift_list(
     words: &[u32],
     variables: u32,
     nodes: u32,
+    weights: &[u32],
     capacity: u32,
     positives: &mut [u64],
     negatives: &mut [u64],
     counts: &mut [u32],
 ) -> Answer
-    ensures { λ r. ⌜ r ≡ answerOf nothing (listTable true variables nodes (now (words .entry)) capacity
+    ensures { λ r. ⌜ r ≡ answerOf nothing (listTable true (now (weights .entry)) variables nodes (now (words .entry)) capacity
         (lent (now (positives .entry)) (now (negatives .entry)) (now (counts .entry))) .answer) ⌝ }
-    ensures { λ _. ⌜ now (positives .exit) ≡ listTable true variables nodes (now (words .entry)) capacity
+    ensures { λ _. ⌜ now (positives .exit) ≡ listTable true (now (weights .entry)) variables nodes (now (words .entry)) capacity
         (lent (now (positives .entry)) (now (negatives .entry)) (now (counts .entry))) .after .positives ⌝ }
-    ensures { λ _. ⌜ now (negatives .exit) ≡ listTable true variables nodes (now (words .entry)) capacity
+    ensures { λ _. ⌜ now (negatives .exit) ≡ listTable true (now (weights .entry)) variables nodes (now (words .entry)) capacity
         (lent (now (positives .entry)) (now (negatives .entry)) (now (counts .entry))) .after .negatives ⌝ }
-    ensures { λ _. ⌜ now (counts .exit) ≡ listTable true variables nodes (now (words .entry)) capacity
+    ensures { λ _. ⌜ now (counts .exit) ≡ listTable true (now (weights .entry)) variables nodes (now (words .entry)) capacity
         (lent (now (positives .entry)) (now (negatives .entry)) (now (counts .entry))) .after .counts ⌝ }
 {
     list_answer(listing::list(
@@ -251,30 +252,32 @@ pub extern "C" fn quelbrift_list(
         negatives,
         counts,
         words,
+        weights,
         variables,
         nodes,
         capacity,
     ))
 }
 
-// Lists the prime implicants of every node's negation.
+// Lists the prime implicants of every node's negation, in the same order.
 #[no_mangle]
 pub extern "C" fn quelbrift_list_negation(
     words: &[u32],
     variables: u32,
     nodes: u32,
+    weights: &[u32],
     capacity: u32,
     positives: &mut [u64],
     negatives: &mut [u64],
     counts: &mut [u32],
 ) -> Answer
-    ensures { λ r. ⌜ r ≡ answerOf nothing (listTable false variables nodes (now (words .entry)) capacity
+    ensures { λ r. ⌜ r ≡ answerOf nothing (listTable false (now (weights .entry)) variables nodes (now (words .entry)) capacity
         (lent (now (positives .entry)) (now (negatives .entry)) (now (counts .entry))) .answer) ⌝ }
-    ensures { λ _. ⌜ now (positives .exit) ≡ listTable false variables nodes (now (words .entry)) capacity
+    ensures { λ _. ⌜ now (positives .exit) ≡ listTable false (now (weights .entry)) variables nodes (now (words .entry)) capacity
         (lent (now (positives .entry)) (now (negatives .entry)) (now (counts .entry))) .after .positives ⌝ }
-    ensures { λ _. ⌜ now (negatives .exit) ≡ listTable false variables nodes (now (words .entry)) capacity
+    ensures { λ _. ⌜ now (negatives .exit) ≡ listTable false (now (weights .entry)) variables nodes (now (words .entry)) capacity
         (lent (now (positives .entry)) (now (negatives .entry)) (now (counts .entry))) .after .negatives ⌝ }
-    ensures { λ _. ⌜ now (counts .exit) ≡ listTable false variables nodes (now (words .entry)) capacity
+    ensures { λ _. ⌜ now (counts .exit) ≡ listTable false (now (weights .entry)) variables nodes (now (words .entry)) capacity
         (lent (now (positives .entry)) (now (negatives .entry)) (now (counts .entry))) .after .counts ⌝ }
 {
     list_answer(listing::list_negation(
@@ -282,6 +285,7 @@ pub extern "C" fn quelbrift_list_negation(
         negatives,
         counts,
         words,
+        weights,
         variables,
         nodes,
         capacity,

@@ -64,6 +64,7 @@ pub extern "C" fn quelbrift_walk<'a, 'b>(
     words: &'b [u32],
     variables: u32,
     nodes: u32,
+    weights: &'b [u32],
     capacity: u32,
     list: &'a [Step],
     positives: &'b mut [u64],
@@ -72,12 +73,12 @@ pub extern "C" fn quelbrift_walk<'a, 'b>(
     statuses: &'b mut [u32],
     compatibles: &'b mut [u32],
 ) -> Answer
-    ensures { λ r. ⌜ (r ≡ answerOf numbers (walkTable variables nodes (now (words .entry)) capacity (now (list .entry))
+    ensures { λ r. ⌜ (r ≡ answerOf numbers (walkTable (now (weights .entry)) variables nodes (now (words .entry)) capacity (now (list .entry))
         (walkLent (lent (now (positives .entry)) (now (negatives .entry)) (now (counts .entry)))
         (now (statuses .entry)) (now (compatibles .entry))) .answer))
         × (walkLent (lent (now (positives .exit)) (now (negatives .exit)) (now (counts .exit)))
         (now (statuses .exit)) (now (compatibles .exit))
-        ≡ walkTable variables nodes (now (words .entry)) capacity (now (list .entry))
+        ≡ walkTable (now (weights .entry)) variables nodes (now (words .entry)) capacity (now (list .entry))
         (walkLent (lent (now (positives .entry)) (now (negatives .entry)) (now (counts .entry)))
         (now (statuses .entry)) (now (compatibles .entry))) .after) ⌝ }
 {
@@ -88,6 +89,7 @@ pub extern "C" fn quelbrift_walk<'a, 'b>(
         statuses,
         compatibles,
         words,
+        weights,
         variables,
         nodes,
         steps::columns_of(list),

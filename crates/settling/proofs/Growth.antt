@@ -3,7 +3,7 @@ use Prim.Native.Nat.{ℕ, _≤_, _<_}
 use mathlib.Core.Path.{_≡_, refl, sym, subst, _∙_}
 use mathlib.Core.Bool.{Bool, true, false}
 use mathlib.Core.Logic.{_⊎_, inl, inr, ⊎-elim}
-use mathlib.Core.List.{List, List·Memᴰ, List·Memᴰ·not-nil}
+use mathlib.Core.List.{List, [], List·Memᴰ, List·Memᴰ·not-nil}
 use native.Mathlib.Nat.{lt-of-lt-of-le}
 use lib.ListN.{length}
 use Rattle.terms.specs.Lists.{insert, sort, Rising}
@@ -11,8 +11,8 @@ use Rattle.terms.specs.Order.{before}
 use Rattle.terms.specs.Term.{IsTerm}
 use Rattle.terms.specs.declared.Term.{Term}
 use Rattle.terms.proofs.Embeddings.{rising-length}
-use Rattle.terms.proofs.Listed.{before-irrefl, before-trans, before-total}
-use Rattle.terms.proofs.Sorted.{insert-out, insert-in, insert-rising, sort-rising, sort-in, sort-out, rising-unique}
+use Rattle.terms.proofs.Listed.{before-total, inserted-rising, sorted-in, sorted-only}
+use Rattle.terms.proofs.Sorted.{insert-out, insert-in}
 use Rattle.insertion.specs.Filled.{held, Filled}
 use Rattle.insertion.specs.declared.Kept.the-variants.{Count, Full}
 use Rattle.insertion.proofs.Again.{filled-length, filled-fits, filled-held, filled-then}
@@ -59,7 +59,7 @@ module _ {N : ℕ} {s : Bool → List ℕ} {count : ℕ} (f : Front N s count) {
         }
       where
         longer : Grew more s′ c s″ d → length (held s′ c) ≤ length (held s″ d)
-        longer h = rising-length (held s′ c) (held s″ d) (g .rising) (h .keeps)
+        longer h = rising-length [] (held s′ c) (held s″ d) (g .rising) (h .keeps)
 
     pub over-then : Overflow more s′ c → Overflow more s count
     over-then o =
@@ -72,59 +72,56 @@ module _ {N : ℕ} {s : Bool → List ℕ} {count : ℕ} (f : Front N s count) {
 
   -- one term more
   module _ (t : Term) (k : IsTerm N t) (m : List·Memᴰ t more) where
-    only-these : (u : Term) → List·Memᴰ u (insert before t (held s count)) → List·Memᴰ u (held s count) ⊎ List·Memᴰ u more
+    only-these : (u : Term) → List·Memᴰ u (insert (before []) t (held s count)) → List·Memᴰ u (held s count) ⊎ List·Memᴰ u more
     only-these u n =
         ⊎-elim (λ (e : u ≡ t). inr (subst (λ (z : Term). List·Memᴰ z more) (sym e) m)) inl
-        (insert-out before before-irrefl before-trans t (held s count) u n)
+        (insert-out (before []) t (held s count) u n)
 
-    into : (u : Term) → (u ≡ t) ⊎ List·Memᴰ u (held s count) → List·Memᴰ u (insert before t (held s count))
-    into = insert-in before before-irrefl before-trans (IsTerm N) (before-total N) t (held s count) k (f .terms)
+    into : (u : Term) → (u ≡ t) ⊎ List·Memᴰ u (held s count) → List·Memᴰ u (insert (before []) t (held s count))
+    into = insert-in (before []) (IsTerm N) (before-total [] N) t (held s count) k (f .terms)
 
-    pub grew-insert : {s′ : Bool → List ℕ} {c : ℕ} → Filled (insert before t (held s count)) s s′ (Count c)
+    pub grew-insert : {s′ : Bool → List ℕ} {c : ℕ} → Filled (insert (before []) t (held s count)) s s′ (Count c)
         → Grew more s count s′ c × List·Memᴰ t (held s′ c)
     grew-insert {s′} {c} h =
-        let e : held s′ c ≡ insert before t (held s count) =
-        filled-held (insert before t (held s count)) s s′ (evens f) c h in (
+        let e : held s′ c ≡ insert (before []) t (held s count) =
+        filled-held (insert (before []) t (held s count)) s s′ (evens f) c h in (
           record {
             holds = subst (λ (l : List Term). Filled l s s′ (Count c)) (sym e) h;
-            rising = subst (Rising before) (sym e) (insert-rising before before-irrefl before-trans t (held s count) (f .rising));
+            rising = subst (Rising (before [])) (sym e) (inserted-rising [] t (held s count) (f .rising));
             only = λ u n. only-these u (subst (λ (l : List Term). List·Memᴰ u l) e n);
             keeps = λ u n. subst (λ (l : List Term). List·Memᴰ u l) (sym e) (into u (inr n));
           },
           subst (λ (l : List Term). List·Memᴰ t l) (sym e) (into t (inl refl)),
         )
 
-    pub over-insert : {s′ : Bool → List ℕ} → Filled (insert before t (held s count)) s s′ Full → Overflow more s count
+    pub over-insert : {s′ : Bool → List ℕ} → Filled (insert (before []) t (held s count)) s s′ Full → Overflow more s count
     over-insert h =
         record {
-          list = insert before t (held s count);
-          rising = insert-rising before before-irrefl before-trans t (held s count) (f .rising);
+          list = insert (before []) t (held s count);
+          rising = inserted-rising [] t (held s count) (f .rising);
           only = only-these;
-          over = kept-full (length (s true)) (insert before t (held s count)) (h .answer);
+          over = kept-full (length (s true)) (insert (before []) t (held s count)) (h .answer);
         }
 
   -- ---- from the empty list: the whole of `more`, or more than the slices hold
   module _ (none : count ≡ 0) (terms : (t : Term) → List·Memᴰ t more → IsTerm N t) where
-    sorted-in : (t : Term) → List·Memᴰ t more → List·Memᴰ t (sort before more)
-    sorted-in = sort-in before before-irrefl before-trans (IsTerm N) (before-total N) more terms
-
     empty-only : {l : List Term} → ((t : Term) → List·Memᴰ t l → List·Memᴰ t (held s count) ⊎ List·Memᴰ t more)
-        → (t : Term) → List·Memᴰ t l → List·Memᴰ t (sort before more)
-    empty-only h t m = ⊎-elim (λ (n : List·Memᴰ t (held s count)). absurd (nothing-held t n)) (sorted-in t) (h t m)
+        → (t : Term) → List·Memᴰ t l → List·Memᴰ t more
+    empty-only h t m =
+        ⊎-elim (λ (n : List·Memᴰ t (held s count)). absurd (nothing-held t n)) (λ (n : List·Memᴰ t more). n) (h t m)
       where
         nothing-held : (t : Term) → List·Memᴰ t (held s count) → ⊥
         nothing-held t n = List·Memᴰ·not-nil (subst (λ (k : ℕ). List·Memᴰ t (held s k)) none n)
 
     pub grew-whole : {s′ : Bool → List ℕ} {c : ℕ} → Grew more s count s′ c
-        → ((t : Term) → List·Memᴰ t more → List·Memᴰ t (held s′ c)) → Filled (sort before more) s s′ (Count c)
+        → ((t : Term) → List·Memᴰ t more → List·Memᴰ t (held s′ c)) → Filled (sort (before []) more) s s′ (Count c)
     grew-whole {s′} {c} g all =
         subst (λ (l : List Term). Filled l s s′ (Count c))
-        (rising-unique before before-irrefl before-trans (held s′ c) (sort before more) (g .rising)
-        (sort-rising before before-irrefl before-trans more) (empty-only (g .only))
-        (λ t m. all t (sort-out before before-irrefl before-trans more t m)))
+        (sorted-only [] N (held s′ c) more (g .rising) terms (empty-only (g .only)) all)
         (g .holds)
 
-    pub over-whole : {s′ : Bool → List ℕ} → Overflow more s count → Filled (sort before more) s s′ Full
+    pub over-whole : {s′ : Bool → List ℕ} → Overflow more s count → Filled (sort (before []) more) s s′ Full
     over-whole {s′} o =
-        filled-full (sort before more) s s′
-        (lt-of-lt-of-le (o .over) (rising-length (o .list) (sort before more) (o .rising) (empty-only (o .only))))
+        filled-full (sort (before []) more) s s′
+        (lt-of-lt-of-le (o .over) (rising-length [] (o .list) (sort (before []) more) (o .rising)
+        (λ t m. sorted-in [] N more terms t (empty-only (o .only) t m))))

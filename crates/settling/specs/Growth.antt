@@ -3,7 +3,7 @@ use Prim.Native.Nat.{ℕ, _*_, _≤_, _<_}
 use mathlib.Core.Path.{_≡_}
 use mathlib.Core.Bool.{Bool, true, false}
 use mathlib.Core.Logic.{_⊎_}
-use mathlib.Core.List.{List, List·Memᴰ}
+use mathlib.Core.List.{List, [], List·Memᴰ}
 use lib.ListN.{length}
 use Rattle.terms.specs.Lists.{insert, Rising}
 use Rattle.terms.specs.Order.{before}
@@ -22,20 +22,20 @@ use Rattle.settling.specs.declared.counts.Growth.the-variants.{To, Over}
 pub record Front (N : ℕ) (s : Bool → List ℕ) (count : ℕ) : Type 0 where
   pub fits : count ≤ length (s true)
   pub even : length (s false) ≡ length (s true)
-  pub rising : Rising before (held s count)
+  pub rising : Rising (before []) (held s count)
   pub terms : (t : Term) → List·Memᴰ t (held s count) → IsTerm N t
 
 -- the list has grown by some terms of `more`, and nothing behind it changed
 pub record Grew (more : List Term) (s : Bool → List ℕ) (count : ℕ) (s′ : Bool → List ℕ) (c : ℕ) : Type 0 where
   pub holds : Filled (held s′ c) s s′ (Count c)
-  pub rising : Rising before (held s′ c)
+  pub rising : Rising (before []) (held s′ c)
   pub only : (t : Term) → List·Memᴰ t (held s′ c) → List·Memᴰ t (held s count) ⊎ List·Memᴰ t more
   pub keeps : (t : Term) → List·Memᴰ t (held s count) → List·Memᴰ t (held s′ c)
 
 -- there are more terms, listed ones or of `more`, than the slices have entries
 pub record Overflow (more : List Term) (s : Bool → List ℕ) (count : ℕ) : Type 0 where
   pub list : List Term
-  pub rising : Rising before list
+  pub rising : Rising (before []) list
   pub only : (t : Term) → List·Memᴰ t list → List·Memᴰ t (held s count) ⊎ List·Memᴰ t more
   pub over : length (s true) < length list
 
@@ -48,8 +48,8 @@ pub record StillKept (t : Term) (kept : List ℕ) (k : ℕ) (kept′ : List ℕ)
 -- t was to be listed and kept
 abbrev pub Keeps : Term → (Bool → List ℕ) → List ℕ → Counts → (Bool → List ℕ) → List ℕ → Growth → Type 0
 Keeps t s kept c s′ kept′ (To d) =
-    Filled (insert before t (held s (c .listed))) s s′ (Count (d .listed)) × StillKept t kept (c .kept) kept′ (d .kept)
-Keeps t s kept c s′ kept′ Over = Filled (insert before t (held s (c .listed))) s s′ Full
+    Filled (insert (before []) t (held s (c .listed))) s s′ (Count (d .listed)) × StillKept t kept (c .kept) kept′ (d .kept)
+Keeps t s kept c s′ kept′ Over = Filled (insert (before []) t (held s (c .listed))) s s′ Full
 
 -- a list grows by terms of two sides, and the kept terms are least joins
 pub record Growing (ap an bp bn : List ℕ) (s : Bool → List ℕ) (kept : List ℕ) (c : Counts) : Type 0 where

@@ -3,7 +3,7 @@ use Prim.Native.Nat.{ℕ, _+_, _*_, _≤_, _<_}
 use mathlib.Core.Path.{_≡_}
 use mathlib.Core.Bool.{Bool, true}
 use mathlib.Core.Logic.{_⊎_}
-use mathlib.Core.List.{List, List·Memᴰ}
+use mathlib.Core.List.{List, [], List·Memᴰ}
 use lib.Dec.{T}
 use lib.ListN.{length}
 use Rattle.masks.specs.Mask.{width}
@@ -25,8 +25,8 @@ pub record Sides (a b : List Term) : Type 0 where
   pub high : ℕ → Bool
   pub lists-low : Lists variables low a
   pub lists-high : Lists variables high b
-  pub rising-low : Rising before a
-  pub rising-high : Rising before b
+  pub rising-low : Rising (before []) a
+  pub rising-high : Rising (before []) b
 
 -- the two sides as they stand in slices: the positive masks in one, the negative in another of the same length
 pub record SidesAt (ap an bp bn : List ℕ) : Type 0 where

@@ -1,5 +1,6 @@
 // How far a list has grown, and one term more.
 ghost use mathlib.Core.Path.{_≡_};
+ghost use mathlib.Core.List.{[]};
 ghost use Prim.Native.Nat.{_*_, _≤_};
 ghost use lib.ListN.{length};
 ghost use Rattle.terms.specs.Lists.{Rising};
@@ -31,7 +32,7 @@ pub fn keep(
     t: Term,
 ) -> Growth
     requires { ⌜ (counts .listed ≤ length (now positives)) × (length (now negatives) ≡ length (now positives))
-        × Rising before (held (bySign (now positives) (now negatives)) (counts .listed)) ⌝ }
+        × Rising (before []) (held (bySign (now positives) (now negatives)) (counts .listed)) ⌝ }
     requires { ⌜ 2 * (counts .kept) ≤ length (now kept) ⌝ }
     ensures { λ r. ⌜ Keeps t (bySign (now (positives .entry)) (now (negatives .entry))) (now (kept .entry)) counts
         (bySign (now (positives .exit)) (now (negatives .exit))) (now (kept .exit)) r ⌝ }

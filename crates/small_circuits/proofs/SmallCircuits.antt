@@ -1,7 +1,7 @@
 -- The small circuits, computed from the definitions.
 use lib.Dec.{T}
 use Rattle.masks.specs.Mask.{bit, put, size, disjoint}
-use Rattle.masks.specs.Numbers.{every, some, count, least, below}
+use Rattle.masks.specs.Numbers.{every, some, count, total, least, below}
 use Rattle.table.specs.Layout.{wordsAt, putWords}
 use Rattle.table.specs.Node.{nodeAt}
 use Rattle.table.specs.Words.{childrenFit, malformed}
@@ -9,9 +9,10 @@ use Rattle.text.specs.Read.{digitAt, digitsAt, numberAt, matchAt, rangedAt, tai
 use Rattle.text.specs.Read.{headerAt, readText, wordAt}
 use Rattle.terms.specs.Completions.{modelsUnder, status}
 use Rattle.terms.specs.Lists.{all, sort}
-use Rattle.terms.specs.Order.{key, before}
+use Rattle.terms.specs.Order.{weight, key, before}
 use Rattle.terms.specs.Prime.{implicant, prime, candidates, primes}
 use Rattle.terms.specs.Term.{isTerm, agrees}
+use Rattle.weighing.specs.Weights.{fitting}
 use Rattle.measurements.specs.Measurement.{measuredTerm, wrong, checkMeasurements}
 use Rattle.circuits.specs.Check.{parentless, undecomposable, unreduced, check}
 use Rattle.circuits.specs.Function.{bottomUp, ofNode, function, support}
@@ -24,7 +25,7 @@ use Rattle.small_circuits.specs.Small.{smallHolds, judgements, small}
 pub small-holds : T (all smallHolds small)
 unfolding small judgements modelCount partialEvaluation judgement status modelsUnder checkTerm checkMeasurements wrong measuredTerm
     listTable exceeds check malformed parentless undecomposable unreduced support nodeAt wordsAt putWords
-    childrenFit bottomUp ofNode function primes prime candidates implicant agrees isTerm key before sort
-    bit put size disjoint every some count least below
+    childrenFit bottomUp ofNode function primes prime candidates implicant agrees isTerm weight key before sort
+    fitting bit put size disjoint every some count total least below
     readText headerAt linesAt formAt restWith endAt closeAt headAt tailAt wordAt rangedAt matchAt numberAt digitsAt digitAt
 small-holds = tt

@@ -15,10 +15,11 @@ use Rattle.queries.specs.Queries.{modelCount}
 use Rattle.partial.specs.Partial.{partialEvaluation}
 use Rattle.listing.specs.Listing.{nodePrimes, lent, listTable}
 
--- prime implicants in order, and whether some capacities suffice
+-- prime implicants in order where every weight is 0, whether some capacities suffice, and their order by some weights
 pub record Primes : Type 0 where
   pub terms : List Term
   pub capacities : List (ℕ × Bool)
+  pub weighed : List (List ℕ × List Term)
 
 -- a partial assignment, and its judgement: the status with both numbers of completions, or a refusal
 pub record Question : Type 0 where
@@ -58,17 +59,24 @@ sameJudgement (answered v) (answered u) = eqb (v .0) (u .0) && eqb (v .1 .0) (u 
 abbrev judgedAs : ℕ → ℕ → List ℕ → Question → Bool
 judgedAs N n w q = sameJudgement (q .judgement) (partialEvaluation N n w (q .given) (q .measured))
 
--- a listing with this capacity, into buffers of just the needed length, is done, or refused with 42
+-- the answer of a listing by the weights m with this capacity, into buffers of just the needed length
+abbrev listing : Bool → List ℕ → ℕ → ℕ → List ℕ → ℕ → Outcome (Unit {0})
+listing c m N n w R = let rows : List ℕ = replicate (n * R) 7 in listTable c m N n w R (lent rows rows (replicate n 7)) .answer
+
+-- it is done, or refused with 42; with a weight too many it is refused with 56
 abbrev fits : Bool → ℕ → ℕ → List ℕ → ℕ → Bool → Bool
 fits c N n w R enough =
-    let rows : List ℕ = replicate (n * R) 7 in
-    let answer : Outcome (Unit {0}) = listTable c N n w R (lent rows rows (replicate n 7)) .answer in
-    cond enough (isAccepted answer) (refusedAs 42 0 answer)
+    let answer : Outcome (Unit {0}) = listing c (replicate N 0) N n w R in
+    cond enough (isAccepted answer) (refusedAs 42 0 answer) && refusedAs 56 0 (listing c (0 ∷ replicate N 0) N n w R)
 
--- the last node's prime implicants are these, or its negation's where c is false
+-- the last node's prime implicants, or its negation's where c is false, are these in order by the weights m
+abbrev ordered : Bool → List ℕ → ℕ → ℕ → List ℕ → List Term → Bool
+ordered c m N n w ts = sameTerms (nodePrimes m N (signedFunction c w) (pred n)) ts
+
 abbrev listsAs : Bool → ℕ → ℕ → List ℕ → Primes → Bool
 listsAs c N n w ps =
-    sameTerms (nodePrimes N (signedFunction c w) (pred n)) (ps .terms) && all (λ r. fits c N n w (r .0) (r .1)) (ps .capacities)
+    ordered c (replicate N 0) N n w (ps .terms) && all (λ r. fits c N n w (r .0) (r .1)) (ps .capacities)
+    && all (λ o. ordered c (o .0) N n w (o .1)) (ps .weighed)
 
 -- of a table of n nodes over N variables; the circuit is the last node. 21 to 25 come before 32 and 53
 abbrev pub holds : ℕ → ℕ → List ℕ → Known → Bool

@@ -30,7 +30,11 @@ abbrev circuit : String → Known → SmallCircuit
 circuit s k = record { text = ascii s; known = k }
 
 abbrev these : List Term → List (ℕ × Bool) → Primes
-these ts capacities = record { terms = ts; capacities = capacities }
+these ts capacities = record { terms = ts; capacities = capacities; weighed = [] }
+
+-- with their order by the weights m besides
+abbrev weighing : List ℕ → List Term → Primes → Primes
+weighing m ts ps = record { terms = ps .terms; capacities = ps .capacities; weighed = (m, ts) ∷ ps .weighed }
 
 abbrev asks : Term → Measurements → Outcome (ℕ × (ℕ × ℕ)) → Question
 asks t m o = record { given = t; measured = m; judgement = o }
@@ -83,7 +87,8 @@ judgements =
     ∷ asks (term 1 1) (one 3 (pos 0) (pos 9) (pos 5)) (refused 32 0)
     ∷ []
 
--- after each count the prime implicants of the circuit ("clearances"), those of its negation ("blockers"), then judgements
+-- after each count the prime implicants of the circuit ("clearances"), those of its negation ("blockers"), then judgements; before a list
+-- some weights and the list in their order
 unfoldable pub small : List SmallCircuit
 small =
     -- P1 to P4
@@ -105,19 +110,26 @@ small =
     ∷ circuit "(circuit 1)\n(pick 0 (yes 0) (true))\n" (fault 24 2)
     ∷ circuit "(circuit 1)\n(pick 0 (false) (false))\n" (fault 25 2)
     ∷ circuit "(circuit 1)\n(yes 0)\n(no 0)\n" (fault 23 0)
-    -- P9: with a capacity of 2 or 3 the clearances lack room, the blockers do not
+    -- P9: with a capacity of 2 or 3 the clearances lack room, the blockers do not. By the weights 10, 0 and 3 the clearances weigh 10, 10,
+    -- 13 and 3
     ∷ circuit "(circuit 3)\n(pick 0 (no 1) (pick 1 (yes 2) (true)))\n"
-    (accepts 5 (these (term 0 3 ∷ term 3 0 ∷ term 5 0 ∷ term 4 2 ∷ []) ((3, false) ∷ (4, true) ∷ []))
+    (accepts 5
+    (weighing (10 ∷ 0 ∷ 3 ∷ []) (term 4 2 ∷ term 0 3 ∷ term 3 0 ∷ term 5 0 ∷ [])
+    (these (term 0 3 ∷ term 3 0 ∷ term 5 0 ∷ term 4 2 ∷ []) ((3, false) ∷ (4, true) ∷ [])))
     (these (term 2 1 ∷ term 1 6 ∷ []) ((1, false) ∷ (2, true) ∷ [])) judgements)
     -- P10 to P12: v3, v2 and v1 of Example 1 in the article, with b, e, p, s as variables 0 to 3
     ∷ circuit "(circuit 4)\n(pick 3 (true) (yes 2))\n"
     (accepts 12 (these (term 4 0 ∷ term 0 8 ∷ []) []) (these (term 8 4 ∷ []) []) [])
     ∷ circuit "(circuit 4)\n(pick 0 (pick 3 (true) (yes 2)) (no 2))\n"
     (accepts 10 (these (term 1 4 ∷ term 4 1 ∷ term 0 9 ∷ term 0 12 ∷ []) []) (these (term 5 0 ∷ term 8 5 ∷ []) []) [])
-    -- P12 where 2 is false: with 3 false by -20 to -11 against -10; with 1 false by the same and 3 left unknown by -20 to -10
+    -- P12: with 1,000 at variable 2 alone, one clearance and one blocker weigh nothing, and come first though they have no fewer marks;
+    -- the others weigh the same. Judged where 2 is false: with 3 false by -20 to -11 against -10; with 1 false by the same and 3 left unknown by -20 to -10
     ∷ circuit "(circuit 4)\n(pick 1 (pick 0 (pick 3 (true) (yes 2)) (no 2)) (both (no 2) (no 3)))\n"
-    (accepts 7 (these (term 0 12 ∷ term 1 6 ∷ term 4 3 ∷ term 0 11 ∷ []) [])
-    (these (term 5 0 ∷ term 6 0 ∷ term 10 0 ∷ term 8 5 ∷ []) ((3, false) ∷ []))
+    (accepts 7
+    (weighing (0 ∷ 0 ∷ 1000 ∷ 0 ∷ []) (term 0 11 ∷ term 0 12 ∷ term 1 6 ∷ term 4 3 ∷ [])
+    (these (term 0 12 ∷ term 1 6 ∷ term 4 3 ∷ term 0 11 ∷ []) []))
+    (weighing (0 ∷ 0 ∷ 1000 ∷ 0 ∷ []) (term 10 0 ∷ term 5 0 ∷ term 6 0 ∷ term 8 5 ∷ [])
+    (these (term 5 0 ∷ term 6 0 ∷ term 10 0 ∷ term 8 5 ∷ []) ((3, false) ∷ [])))
     (asks (term 0 4) (one 3 (negsuc 19) (negsuc 10) (negsuc 9)) (judged 2 4 0)
     ∷ asks (term 0 4)
     (measurements (1 ∷ 3 ∷ []) (negsuc 19 ∷ negsuc 19 ∷ []) (negsuc 10 ∷ negsuc 9 ∷ []) (negsuc 9 ∷ negsuc 9 ∷ []))

@@ -43,7 +43,7 @@ module _ (ps ns : List ℕ) (end : ℕ) (t : Term) (q : Searchable ps ns end t) 
       let l : k < length ps = omega (arith, p .0, length-terms ps ns (q .even)) in
       let level : Level t u = subst (Level t) (entry-terms ps ns k (q .even) l) (p .1) in
       let same : t ≡ u =
-      before-total (o .over) t u (o .isTerm) (o .terms u (term-in ps ns k (q .even) l)) (along (level .0)) (along (level .1)) in
+      before-total [] (o .over) t u (o .isTerm) (o .terms u (term-in ps ns k (q .even) l)) (along (level .0)) (along (level .1)) in
       (l, is-true (inside u t) (subst (λ (z : Term). T (inside z t)) same (inside-i (o .over) t t (inside-refl t))))
 
   module _ (j : ℕ) (p : Placed t (termsOf ps ns) (At j)) where

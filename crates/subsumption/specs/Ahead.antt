@@ -2,7 +2,7 @@
 use Prim.Native.Nat.{ℕ, _<_, _≤_}
 use mathlib.Core.Path.{_≡_}
 use mathlib.Core.Bool.{Bool, true, false}
-use mathlib.Core.List.{List, List·Memᴰ}
+use mathlib.Core.List.{List, [], List·Memᴰ}
 use lib.Dec.{ltb}
 use lib.ListN.{length}
 use Rattle.masks.specs.Mask.{width}
@@ -34,7 +34,7 @@ pub record OverSome (t : Term) (l : List Term) : Type 0 where
 pub record Searchable (ps ns : List ℕ) (end : ℕ) (t : Term) : Type 0 where
   pub even : length ns ≡ length ps
   pub within : end ≤ length ps
-  pub rising : Rising before (termsOf ps ns)
+  pub rising : Rising (before []) (termsOf ps ns)
   pub none : NoneAhead ps ns t end
   pub terms : OverSome t (termsOf ps ns)
 

@@ -1,5 +1,6 @@
 // Subsumption: a term of a list in order that is inside a given term.
 ghost use mathlib.Core.Path.{_≡_};
+ghost use mathlib.Core.List.{[]};
 ghost use Prim.Native.Nat.{_≤_};
 ghost use lib.ListN.{length};
 ghost use Rattle.terms.specs.Lists.{Rising};
@@ -25,7 +26,7 @@ fn is_ahead(u: Term, t: Term) -> bool
 // The first place from `from` on whose term is not ahead of t. Since the list is in order, none from there on is.
 pub fn end_ahead(positives: &[u64], negatives: &[u64], from: usize, t: Term) -> usize
     requires { ⌜ (length (now negatives) ≡ length (now positives)) × (from ≤ length (now positives)) ⌝ }
-    requires { ⌜ Rising before (termsOf (now positives) (now negatives)) ⌝ }
+    requires { ⌜ Rising (before []) (termsOf (now positives) (now negatives)) ⌝ }
     ensures { λ r. ⌜ (from ≤ r) × (r ≤ length (now (positives .entry)))
         × NoneAhead (now (positives .entry)) (now (negatives .entry)) t r ⌝ }
 {

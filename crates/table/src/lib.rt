@@ -44,6 +44,8 @@ pub enum Refusal {
     Unsatisfied,
     // a capacity above 4,096, or buffers too small for it
     Buffers,
+    // not one weight for each variable, or one above 1,000
+    Weights,
     // more prime implicants than the capacity
     Capacity,
 }
@@ -68,6 +70,7 @@ pub fn number_of(why: Refusal) -> u32
         Refusal::NotTerm => 32,
         Refusal::Unsatisfied => 33,
         Refusal::Buffers => 41,
+        Refusal::Weights => 56,
         Refusal::Capacity => 42,
     }
 }
@@ -86,6 +89,7 @@ pub fn node_of(why: Refusal) -> u32
         Refusal::NotTerm => 0,
         Refusal::Unsatisfied => 0,
         Refusal::Buffers => 0,
+        Refusal::Weights => 0,
         Refusal::Capacity => 0,
     }
 }

@@ -10,7 +10,7 @@ use native.Mathlib.Omega.{arith}
 use lib.Dec.{T}
 use lib.ListN.{length, length-append}
 use Rattle.masks.proofs.Tests.{along}
-use Rattle.terms.specs.Lists.{Rising}
+use Rattle.terms.specs.Lists.{keep, Rising}
 use Rattle.terms.specs.Order.{before}
 use Rattle.terms.specs.Prime.{implicant, primes, Prime}
 use Rattle.terms.specs.Term.{has, without, extend, join}
@@ -19,6 +19,7 @@ use Rattle.terms.proofs.Conjunctions.{conj, inside-left, inside-right, 
 use Rattle.terms.proofs.Decisions.{choice, side-unmentioned, both-sides, one-side}
 use Rattle.terms.proofs.Implicants.{Free, implicant-e, implicant-i}
 use Rattle.terms.proofs.Listed.{before-irrefl, primes-lists, primes-rising}
+use Rattle.terms.proofs.Sorted.{keep-in, keep-out, keep-rising}
 use Rattle.terms.proofs.Terms.{Inside, Unmentioned, extend-here, join-l, join-r, term-ext, without-extend}
 
 -- ---- a list without repetitions that goes one to one into another is no longer
@@ -59,14 +60,15 @@ into-length {A} φ (a ∷ l) k d h one =
     let z : length k ≡ length (p ++ (φ a ∷ q)) = ap length e in
     omega arith
 
-rising-distinct : (l : List Term) → Rising before l → Distinct l
-rising-distinct [] r = tt
-rising-distinct (a ∷ l) r =
-    (λ b m e. before-irrefl a (subst (λ (z : Term). T (before a z)) e (r .0 b m)), rising-distinct l (r .1))
+rising-distinct : (m : List ℕ) (l : List Term) → Rising (before m) l → Distinct l
+rising-distinct m [] r = tt
+rising-distinct m (a ∷ l) r =
+    (λ b i e. before-irrefl m a (subst (λ (z : Term). T (before m a z)) e (r .0 b i)), rising-distinct m l (r .1))
 
 -- a list in order whose members are all in another is no longer
-pub rising-length : (l k : List Term) → Rising before l → ((t : Term) → List·Memᴰ t l → List·Memᴰ t k) → length l ≤ length k
-rising-length l k r h = into-length (λ t. t) l k (rising-distinct l r) h (λ t u m n e. e)
+pub rising-length : (m : List ℕ) (l k : List Term) → Rising (before m) l → ((t : Term) → List·Memᴰ t l → List·Memᴰ t k)
+    → length l ≤ length k
+rising-length m l k r h = into-length (λ t. t) l k (rising-distinct m l r) h (λ t u i j e. e)
 
 module _ (N : ℕ) where
   -- the prime implicants of f go one to one into those of g
@@ -86,11 +88,33 @@ module _ (N : ℕ) where
         apart = λ t u c d e. p .apart t u c d (q .apart (p .to t) (p .to u) (p .keeps t c) (p .keeps u d) e);
       }
 
-  pub embeds-length : (f g : ℕ → Bool) → Embeds f g → length (primes N f) ≤ length (primes N g)
-  embeds-length f g p =
-      into-length (p .to) (primes N f) (primes N g) (rising-distinct (primes N f) (primes-rising N f))
-      (λ t m. primes-lists N g .every (p .to t) (p .keeps t (primes-lists N f .only t m)))
-      (λ t u m n. p .apart t u (primes-lists N f .only t m) (primes-lists N f .only u n))
+  -- the weights, which may differ, say only in which order the lists are
+  pub embeds-length : (m k : List ℕ) (f g : ℕ → Bool) → Embeds f g → length (primes m N f) ≤ length (primes k N g)
+  embeds-length m k f g p =
+      into-length (p .to) (primes m N f) (primes k N g) (rising-distinct m (primes m N f) (primes-rising m N f))
+      (λ t i. primes-lists k N g .every (p .to t) (p .keeps t (primes-lists m N f .only t i)))
+      (λ t u i j. p .apart t u (primes-lists m N f .only t i) (primes-lists m N f .only u j))
+
+  -- there are as many by other weights
+  pub primes-length : (m k : List ℕ) (f : ℕ → Bool) → length (primes m N f) ≡ length (primes k N f)
+  primes-length m k f =
+      let there : length (primes m N f) ≤ length (primes k N f) = embeds-length m k f f (embeds-refl f) in
+      let back : length (primes k N f) ≤ length (primes m N f) = embeds-length k m f f (embeds-refl f) in
+      omega arith
+
+  -- and as many that pass a test
+  pub kept-length : (m k : List ℕ) (f : ℕ → Bool) (p : Term → Bool) → length (keep p (primes m N f)) ≡ length (keep p (primes k N f))
+  kept-length m k f p =
+      let there : length (keep p (primes m N f)) ≤ length (keep p (primes k N f)) = no-more m k in
+      let back : length (keep p (primes k N f)) ≤ length (keep p (primes m N f)) = no-more k m in
+      omega arith
+    where
+      no-more : (m k : List ℕ) → length (keep p (primes m N f)) ≤ length (keep p (primes k N f))
+      no-more m k =
+          rising-length m (keep p (primes m N f)) (keep p (primes k N f)) (keep-rising p (before m) (primes m N f) (primes-rising m N f))
+          (λ t i.
+          let (j, h) = keep-out p (primes m N f) t i in
+          keep-in p (primes k N f) t (primes-lists k N f .every t (primes-lists m N f .only t j)) h)
 
   -- ---- a side of a decision
   module _ (F : Bool → ℕ → Bool) (x : ℕ) (l : x < N) (free : (b : Bool) → Free N (F b) x) where

@@ -9,13 +9,13 @@ use lib.Dec.{T-not, not-T, eqb, ltb, ltb→lt}
 use lib.Pow.{pow-mono}
 use borrow.Author.Tests.{eq-eqb, ne-eqb, le-ltb}
 use Rattle.masks.specs.Mask.{width, bit, within, disjoint}
-use Rattle.masks.specs.Numbers.{every}
+use Rattle.masks.specs.Numbers.{every, total}
 use Rattle.masks.proofs.Masks.{bit-below}
 use Rattle.masks.proofs.Numbers.{every-e, every-i}
 use Rattle.masks.proofs.Operators.{disjoint-e, disjoint-i}
 use Rattle.masks.proofs.Tests.{and-i, and-l, and-r, along, same-test}
 use Rattle.terms.specs.Lists.{less}
-use Rattle.terms.specs.Order.{key, before}
+use Rattle.terms.specs.Order.{weight, key, before}
 use Rattle.terms.specs.Term.{has, variables, literals, isTerm}
 use Rattle.terms.specs.declared.Term.{Term}
 
@@ -57,20 +57,39 @@ less-last : (a b : ℕ) → less (a ∷ []) (b ∷ []) ≡ ltb a b
 less-last a b = ap (λ (t : Bool). ltb a b || t) (and-false (eqb a b)) ∙ or-false (ltb a b)
 
 module _ (t u : Term) where
-  pub before-literals : literals t ≢ literals u → before t u ≡ ltb (literals t) (literals u)
+  -- different weights decide; where they are the same, it is as without weights
+  pub before-weight : (m : List ℕ) → weight m t ≢ weight m u → before m t u ≡ ltb (weight m t) (weight m u)
   unfolding before key
-  before-literals n =
-      less-ne (literals t) (literals u) (variables t ∷ t .positive ∷ []) (variables u ∷ u .positive ∷ []) n
+  before-weight m n =
+      less-ne (weight m t) (weight m u) (literals t ∷ variables t ∷ t .positive ∷ []) (literals u ∷ variables u ∷ u .positive ∷ []) n
 
-  pub before-variables : literals t ≡ literals u → variables t ≢ variables u → before t u ≡ ltb (variables t) (variables u)
+  -- without weights the number of literals decides first
+  abbrev behind : Bool
+  behind = less (literals t ∷ variables t ∷ t .positive ∷ []) (literals u ∷ variables u ∷ u .positive ∷ [])
+
+  before-behind : (m : List ℕ) → weight m t ≡ weight m u → before m t u ≡ behind
   unfolding before key
+  before-behind m e =
+      less-eq (weight m t) (weight m u) (literals t ∷ variables t ∷ t .positive ∷ []) (literals u ∷ variables u ∷ u .positive ∷ []) e
+
+  pub before-plain : before [] t u ≡ behind
+  unfolding weight total
+  before-plain = before-behind [] refl
+
+  pub before-level : (m : List ℕ) → weight m t ≡ weight m u → before m t u ≡ before [] t u
+  before-level m e = before-behind m e ∙ sym before-plain
+
+  pub before-literals : literals t ≢ literals u → before [] t u ≡ ltb (literals t) (literals u)
+  before-literals n =
+      before-plain ∙ less-ne (literals t) (literals u) (variables t ∷ t .positive ∷ []) (variables u ∷ u .positive ∷ []) n
+
+  pub before-variables : literals t ≡ literals u → variables t ≢ variables u → before [] t u ≡ ltb (variables t) (variables u)
   before-variables e n =
-      less-eq (literals t) (literals u) (variables t ∷ t .positive ∷ []) (variables u ∷ u .positive ∷ []) e
+      before-plain ∙ less-eq (literals t) (literals u) (variables t ∷ t .positive ∷ []) (variables u ∷ u .positive ∷ []) e
       ∙ less-ne (variables t) (variables u) (t .positive ∷ []) (u .positive ∷ []) n
 
-  pub before-positive : literals t ≡ literals u → variables t ≡ variables u → before t u ≡ ltb (t .positive) (u .positive)
-  unfolding before key
+  pub before-positive : literals t ≡ literals u → variables t ≡ variables u → before [] t u ≡ ltb (t .positive) (u .positive)
   before-positive e d =
-      less-eq (literals t) (literals u) (variables t ∷ t .positive ∷ []) (variables u ∷ u .positive ∷ []) e
+      before-plain ∙ less-eq (literals t) (literals u) (variables t ∷ t .positive ∷ []) (variables u ∷ u .positive ∷ []) e
       ∙ less-eq (variables t) (variables u) (t .positive ∷ []) (u .positive ∷ []) d
       ∙ less-last (t .positive) (u .positive)

@@ -4,6 +4,7 @@ pub mod Conjunctions
 pub mod Decisions
 pub mod Sorted
 pub mod Listed
+pub mod Weights
 pub mod Built
 pub mod Embeddings
 pub mod Disjunctions

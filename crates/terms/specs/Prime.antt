@@ -26,9 +26,9 @@ pairs (p ∷ ps) ns = map (term p) ns ++ pairs ps ns
 unfoldable pub candidates : ℕ → List Term
 candidates N = pairs (below (2 ^ N)) (below (2 ^ N))
 
--- all prime implicants of f over N variables, in order
-unfoldable pub primes : ℕ → (ℕ → Bool) → List Term
-primes N f = sort before (keep (prime N f) (candidates N))
+-- all prime implicants of f over N variables, in order by the weights m
+unfoldable pub primes : List ℕ → ℕ → (ℕ → Bool) → List Term
+primes m N f = sort (before m) (keep (prime N f) (candidates N))
 
 -- an implicant with the literals of 0 to k - 1 struck in turn, each if the rest is still an implicant ("strike down")
 unfoldable pub reduce : ℕ → (ℕ → Bool) → Term → ℕ → Term

@@ -1,5 +1,6 @@
 // Terms: conjunctions of literals, as two masks.
 ghost use mathlib.Core.Path.{_≡_};
+ghost use mathlib.Core.List.{[]};
 ghost use Prim.Native.Nat.{_<_};
 ghost use Rattle.terms.specs.Order.{before};
 ghost use Rattle.terms.specs.Term.{has, isTerm, variables, literals, without, extend, join, inside, conflict};
@@ -107,9 +108,9 @@ pub fn conflict(t: Term, u: Term) -> bool
     !(masks::is_disjoint(t.positive, u.negative) & masks::is_disjoint(t.negative, u.positive))
 }
 
-// The strict order of terms.
+// The strict order of terms, without weights.
 pub fn before(t: Term, u: Term) -> bool
-    ensures { λ r. ⌜ r ≡ before t u ⌝ }
+    ensures { λ r. ⌜ r ≡ before [] t u ⌝ }
 {
     let a = literals(t);
     let b = literals(u);

@@ -52,12 +52,12 @@ module _ (es : List Step) (b : WalkLent) (k : ℕ) (size : length es ≡ k) wher
       let m : length es ≤ length (b .compatibles) = leb→le (length es) (length (b .compatibles)) (and-r p q t) in
       (omega arith, omega arith)
 
-module _ (N n : ℕ) (w : List ℕ) (R : ℕ) (es : List Step) (b : WalkLent) where
+module _ (m : List ℕ) (N n : ℕ) (w : List ℕ) (R : ℕ) (es : List Step) (b : WalkLent) where
   abbrev f : ℕ → Bool
   f = circuit n w
 
   abbrev out : WalkOut
-  out = walkTable N n w R es b
+  out = walkTable m N n w R es b
 
   -- the answer with every buffer as it was
   abbrev untouched : Outcome (ℕ × ℕ) → WalkOut
@@ -67,7 +67,7 @@ module _ (N n : ℕ) (w : List ℕ) (R : ℕ) (es : List Step) (b : WalkLent) wh
   walks-by : (o : WalkOut) (b′ : WalkLent) (r : Walked) → out ≡ o → walkedOutcome r ≡ o .answer
       → b′ .rows .positives ≡ o .after .rows .positives → b′ .rows .negatives ≡ o .after .rows .negatives
       → b′ .rows .counts ≡ o .after .rows .counts → b′ .statuses ≡ o .after .statuses → b′ .compatibles ≡ o .after .compatibles
-      → WalkResult N n w R es b b′ r
+      → WalkResult m N n w R es b b′ r
   walks-by o b′ r e h p q c ss cs =
       record {
         answer = h ∙ ap (λ (z : WalkOut). z .answer) (sym e);
@@ -78,29 +78,29 @@ module _ (N n : ℕ) (w : List ℕ) (R : ℕ) (es : List Step) (b : WalkLent) wh
         compatibles = cs ∙ ap (λ (z : WalkOut). z .after .compatibles) (sym e);
       }
 
-  walks-untouched : (r : Walked) → out ≡ untouched (walkedOutcome r) → WalkResult N n w R es b b r
+  walks-untouched : (r : Walked) → out ≡ untouched (walkedOutcome r) → WalkResult m N n w R es b b r
   walks-untouched r e = walks-by (untouched (walkedOutcome r)) b r e refl refl refl refl refl refl
 
   -- by the answers of the check and of the steps
-  out-by : (c d : Outcome (Unit {0})) → check N n w ≡ c → checkSteps N 0 es ≡ d → out ≡ walkChecked N n w R es b (after c d)
+  out-by : (c d : Outcome (Unit {0})) → check N n w ≡ c → checkSteps N 0 es ≡ d → out ≡ walkChecked m N n w R es b (after c d)
   unfolding walkTable
-  out-by c d p q = ap₂ (λ (y z : Outcome (Unit {0})). walkChecked N n w R es b (after y z)) p q
+  out-by c d p q = ap₂ (λ (y z : Outcome (Unit {0})). walkChecked m N n w R es b (after y z)) p q
 
   -- ---- 21 to 25
-  pub walks-refused : (r : Refusal) → refusedBy r ≡ check N n w → WalkResult N n w R es b b (Walked.Refused r)
+  pub walks-refused : (r : Refusal) → refusedBy r ≡ check N n w → WalkResult m N n w R es b b (Walked.Refused r)
   walks-refused r e = walks-untouched (Walked.Refused r) (out-by (refusedBy r) (checkSteps N 0 es) (sym e) refl)
 
   module _ (acc : check N n w ≡ accepted) where
     -- ---- 54 and 55
-    pub walks-act : (i : ℕ) → refused 54 i ≡ checkSteps N 0 es → WalkResult N n w R es b b (Walked.Act i)
+    pub walks-act : (i : ℕ) → refused 54 i ≡ checkSteps N 0 es → WalkResult m N n w R es b b (Walked.Act i)
     walks-act i e = walks-untouched (Walked.Act i) (out-by accepted (refused 54 i) acc (sym e))
 
-    pub walks-variable : (i : ℕ) → refused 55 i ≡ checkSteps N 0 es → WalkResult N n w R es b b (Walked.Variable i)
+    pub walks-variable : (i : ℕ) → refused 55 i ≡ checkSteps N 0 es → WalkResult m N n w R es b b (Walked.Variable i)
     walks-variable i e = walks-untouched (Walked.Variable i) (out-by accepted (refused 55 i) acc (sym e))
 
     module _ (good : checkSteps N 0 es ≡ accepted) where
       abbrev list : ListOut
-      list = listTable true N n w R (b .rows)
+      list = listTable true m N n w R (b .rows)
 
       abbrev byRoom : Bool → Outcome (Unit {0}) → WalkOut
       byRoom x o = cond x (walkListed N f es b (list .after) o) (untouched (refused 41 0))
@@ -109,13 +109,13 @@ module _ (N n : ℕ) (w : List ℕ) (R : ℕ) (es : List Step) (b : WalkLent) wh
       out-is x o e d = out-by accepted accepted acc good ∙ ap₂ byRoom e d
 
       -- ---- 41 by the buffers of the steps
-      pub walks-short : stepsFit es b ≡ false → WalkResult N n w R es b b (Walked.Refused Buffers)
+      pub walks-short : stepsFit es b ≡ false → WalkResult m N n w R es b b (Walked.Refused Buffers)
       walks-short e = walks-untouched (Walked.Refused Buffers) (out-is false (list .answer) e refl)
 
       -- ---- by the answer of the listing
-      module _ (fits : stepsFit es b ≡ true) (rows : Lent) (a : Listing) (l : ListResult true N n w R (b .rows) rows a) where
+      module _ (fits : stepsFit es b ≡ true) (rows : Lent) (a : Listing) (l : ListResult true m N n w R (b .rows) rows a) where
         pub walks-lack : (why : Refusal) → a ≡ Refused why
-            → WalkResult N n w R es b (walkLent rows (b .statuses) (b .compatibles)) (Walked.Refused why)
+            → WalkResult m N n w R es b (walkLent rows (b .statuses) (b .compatibles)) (Walked.Refused why)
         walks-lack why d =
             let o : Outcome (Unit {0}) = refusedBy why in
             walks-by (byRoom true o) (walkLent rows (b .statuses) (b .compatibles)) (Walked.Refused why)
@@ -124,7 +124,7 @@ module _ (N n : ℕ) (w : List ℕ) (R : ℕ) (es : List Step) (b : WalkLent) wh
         pub walks-all : a ≡ Listed → (ss cs : List ℕ) (r : Walked) → walkedOutcome r ≡ answered (settled (afterEach N (status N f) es))
             → ss ≡ afterEach N (status N f) es ++ drop (length es) (b .statuses)
             → cs ≡ afterEach N (compatible N f) es ++ drop (length es) (b .compatibles)
-            → WalkResult N n w R es b (walkLent rows ss cs) r
+            → WalkResult m N n w R es b (walkLent rows ss cs) r
         walks-all d ss cs r h p q =
             walks-by (byRoom true accepted) (walkLent rows ss cs) r (out-is true accepted fits (sym (l .answer) ∙ ap listed d)) h
             (l .positives) (l .negatives) (l .counts) p q

@@ -67,16 +67,16 @@ module _ (N : ℕ) (wide : N ≤ width) (f : ℕ → Bool) where
       unfolding compatible
       some-free e =
           let (p, b) = reduction-prime N f s l m in
-          none-e (keep free (primes N f)) e struck
-          (keep-in free (primes N f) struck (primes-lists N f .every struck p) (struck-free p b))
+          none-e (keep free (primes [] N f)) e struck
+          (keep-in free (primes [] N f) struck (primes-lists [] N f .every struck p) (struck-free p b))
 
     none-free : status N f t ≡ 0 → compatible N f t ≡ 0
     unfolding compatible
     none-free e =
-        none-i (keep free (primes N f))
+        none-i (keep free (primes [] N f))
         (λ u m.
-        let (q, n) = keep-out free (primes N f) u m in
-        every-conflicts (falsified-e N t h f e) u (primes-lists N f .only u q) n)
+        let (q, n) = keep-out free (primes [] N f) u m in
+        every-conflicts (falsified-e N t h f e) u (primes-lists [] N f .only u q) n)
 
     is-forbidden : compatible N f t ≡ 0 → status N f t ≡ 0
     is-forbidden e = falsified-i N t h f (λ s l a. not-T (f s) (λ m. some-free s l a m e))

@@ -11,6 +11,7 @@ use Rattle.masks.proofs.Tests.{along}
 use Rattle.table.specs.Outcome.{accepted, answered}
 use Rattle.terms.specs.Prime.{primes}
 use Rattle.terms.specs.declared.Term.{Term}
+use Rattle.weighing.specs.Weights.{fitting}
 use Rattle.circuits.specs.Check.{check}
 use Rattle.circuits.specs.Function.{signedFunction}
 use Rattle.circuits.proofs.Accepted.{accepted-e}
@@ -27,52 +28,57 @@ use Rattle.walk.specs.declared.Plan.{Plan}
 
 -- the last of n parts
 pub last-part : (n R : ℕ) → 1 ≤ n → pred n * R + R ≡ n * R
-last-part n R h = let e : n ≡ suc (pred n) = omega arith in sym (ap (λ (m : ℕ). m * R) e ∙ suc-mul (pred n) R)
+last-part n R h = let e : n ≡ suc (pred n) = omega arith in sym (ap (λ (k : ℕ). k * R) e ∙ suc-mul (pred n) R)
 
-module _ (N n : ℕ) (w : List ℕ) (R : ℕ) (b : Lent) (acc : check N n w ≡ accepted) where
+module _ (m : List ℕ) (N n : ℕ) (w : List ℕ) (R : ℕ) (b : Lent) (acc : check N n w ≡ accepted) where
   abbrev F : ℕ → ℕ → Bool
   F = signedFunction true w
 
   abbrev out : ListOut
-  out = listTable true N n w R b
+  out = listTable true m N n w R b
 
   abbrev rows : List Term
-  rows = primes N (circuit n w)
+  rows = primes m N (circuit n w)
 
   module _ (done : out .answer ≡ answered tt) where
-    -- the buffers are large enough, and the prime implicants of the circuit are at most R
-    tests : (suffices n R b ≡ true) × (exceeds N n F R ≡ false)
-    tests = by (suffices n R b) (exceeds N n F R) refl refl
+    -- the buffers are large enough, the weights fit, and the prime implicants of the circuit are at most R
+    tests : (suffices n R b ≡ true) × (fitting N m ≡ true) × (exceeds m N n F R ≡ false)
+    tests = by (suffices n R b) (fitting N m) (exceeds m N n F R) refl refl refl
       where
-        by : (x y : Bool) → suffices n R b ≡ x → exceeds N n F R ≡ y → (suffices n R b ≡ true) × (exceeds N n F R ≡ false)
-        by true true e d =
-            let o = ap (λ (z : ListOut). z .answer) (out-is true N n w R b acc true true e d) in
+        by : (x y z : Bool) → suffices n R b ≡ x → fitting N m ≡ y → exceeds m N n F R ≡ z
+            → (suffices n R b ≡ true) × (fitting N m ≡ true) × (exceeds m N n F R ≡ false)
+        by true true true e f d =
+            let o = ap (λ (z : ListOut). z .answer) (out-is true m N n w R b acc true true true e f d) in
             let z : _≡_ {A = ℕ} 0 1 = cc in
             absurd (omega arith)
-        by true false e d = (e, d)
-        by false y e d =
-            let o = ap (λ (z : ListOut). z .answer) (out-is true N n w R b acc false y e d) in
+        by true true false e f d = (e, f, d)
+        by true false y e f d =
+            let o = ap (λ (z : ListOut). z .answer) (out-is true m N n w R b acc true false y e f d) in
+            let z : _≡_ {A = ℕ} 0 1 = cc in
+            absurd (omega arith)
+        by false x y e f d =
+            let o = ap (λ (z : ListOut). z .answer) (out-is true m N n w R b acc false x y e f d) in
             let z : _≡_ {A = ℕ} 0 1 = cc in
             absurd (omega arith)
 
-    is-filled : out ≡ filled N n F R b
-    is-filled = out-is true N n w R b acc true false (tests .0) (tests .1)
+    is-filled : out ≡ filled m N n F R b
+    is-filled = out-is true m N n w R b acc true true false (tests .0) (tests .1) (tests .2)
 
     large : Enough n R b
     large = enough n R b (along (sym (tests .0)) tt)
 
     few : length rows ≤ R
     unfolding exceeds
-    few = ltb-false R (length rows) (tests .1)
+    few = ltb-false R (length rows) (tests .2)
 
-    fit : Fit N F R n
-    fit i l = le-trans (no-more (accepted-e N n w acc) true i l) few
+    fit : Fit m N F R n
+    fit i l = le-trans (no-more (accepted-e N n w acc) true m i l) few
 
     last : pred n < n
     last = let h : 1 ≤ n = nodes-some (accepted-e N n w acc) in omega arith
 
     count : getD (out .after .counts) (pred n) 0 ≡ length rows
-    count = ap (λ (z : ListOut). getD (z .after .counts) (pred n) 0) is-filled ∙ count-back N F R n (pred n) (drop n (b .counts)) last
+    count = ap (λ (z : ListOut). getD (z .after .counts) (pred n) 0) is-filled ∙ count-back m N F R n (pred n) (drop n (b .counts)) last
 
     masks : (s : Bool) → take (length rows) (drop (pred n * R) (bySign (out .after .positives) (out .after .negatives) s)) ≡ masksOf s rows
     masks s =
@@ -80,28 +86,29 @@ module _ (N n : ℕ) (w : List ℕ) (R : ℕ) (b : Lent) (acc : check N n w ≡ 
         ∙ by s
       where
         by : (s : Bool)
-            → take (length rows) (drop (pred n * R) (bySign (filled N n F R b .after .positives) (filled N n F R b .after .negatives) s))
+            → take (length rows) (drop (pred n * R) (bySign (filled m N n F R b .after .positives) (filled m N n F R b .after .negatives) s))
             ≡ masksOf s rows
-        by true = masks-back N F R n (pred n) true (drop (n * R) (b .positives)) fit last
-        by false = masks-back N F R n (pred n) false (drop (n * R) (b .negatives)) fit last
+        by true = masks-back m N F R n (pred n) true (drop (n * R) (b .positives)) fit last
+        by false = masks-back m N F R n (pred n) false (drop (n * R) (b .negatives)) fit last
 
 -- what the walk needs of it
-pub walk-ready : (h : Plan) (w : List ℕ) (R k m : ℕ) (b b′ : Lent) → StepsReady h w k m
-    → ListResult true (h .variables) (h .nodes) w R b b′ Listed → length (b′ .positives) ≡ length (b .positives)
-    → length (b′ .negatives) ≡ length (b .negatives) → length (b′ .counts) ≡ length (b .counts) → WalkReady h w b′ R k m
-walk-ready h w R k m b b′ s r p q c =
+pub walk-ready : (m : List ℕ) (h : Plan) (w : List ℕ) (R k c : ℕ) (b b′ : Lent) → StepsReady h w k c
+    → ListResult true m (h .variables) (h .nodes) w R b b′ Listed → length (b′ .positives) ≡ length (b .positives)
+    → length (b′ .negatives) ≡ length (b .negatives) → length (b′ .counts) ≡ length (b .counts) → WalkReady h w b′ R k c
+walk-ready m h w R k c b b′ s r p q e =
     let N : ℕ = h .variables in
     let n : ℕ = h .nodes in
     let acc : check N n w ≡ accepted = s .accepts in
     let done = sym (r .answer) in
-    let l : Enough n R b = large N n w R b acc done in
-    let size : ℕ = length (planPrimes h w) in
+    let l : Enough n R b = large m N n w R b acc done in
+    let size : ℕ = length (planPrimes m h w) in
     record {
       steps = s;
+      weights = m;
       small = l .small;
-      few = few N n w R b acc done;
+      few = few m N n w R b acc done;
       rows = (omega (arith, l .positives), omega (arith, l .negatives), omega (arith, l .counts));
-      count = ap (λ (z : List ℕ). getD z (pred n) 0) (r .counts) ∙ count N n w R b acc done;
-      positives = ap (λ (z : List ℕ). take size (drop (pred n * R) z)) (r .positives) ∙ masks N n w R b acc done true;
-      negatives = ap (λ (z : List ℕ). take size (drop (pred n * R) z)) (r .negatives) ∙ masks N n w R b acc done false;
+      count = ap (λ (z : List ℕ). getD z (pred n) 0) (r .counts) ∙ count m N n w R b acc done;
+      positives = ap (λ (z : List ℕ). take size (drop (pred n * R) z)) (r .positives) ∙ masks m N n w R b acc done true;
+      negatives = ap (λ (z : List ℕ). take size (drop (pred n * R) z)) (r .negatives) ∙ masks m N n w R b acc done false;
     }

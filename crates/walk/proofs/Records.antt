@@ -51,27 +51,27 @@ module _ (N : ℕ) where
       λ j. cond (leb 256 i || ltb 2 (h j .act)) (refused 54 i) (cond (leb N (h j .variable)) (refused 55 i) (r j))
 
 -- ---- so the walk answers the same, whatever the steps past the 256th are
-module _ (N n : ℕ) (w : List ℕ) (R : ℕ) (b : WalkLent) where
-  refused-same : (es ds : List Step) (o : Outcome (Unit {0})) → Refused N o → walkChecked N n w R es b o ≡ walkChecked N n w R ds b o
-  refused-same es ds o (k, p, e) = ap (walkChecked N n w R es b) e ∙ ap (walkChecked N n w R ds b) (sym e)
+module _ (m : List ℕ) (N n : ℕ) (w : List ℕ) (R : ℕ) (b : WalkLent) where
+  refused-same : (es ds : List Step) (o : Outcome (Unit {0})) → Refused N o → walkChecked m N n w R es b o ≡ walkChecked m N n w R ds b o
+  refused-same es ds o (k, p, e) = ap (walkChecked m N n w R es b) e ∙ ap (walkChecked m N n w R ds b) (sym e)
 
   after-refused : (c o : Outcome (Unit {0})) → Refused N o → Refused N (after c o)
   after-refused (answered u) o r = r
   after-refused (refused k p) o r = (k, p, refl)
 
   long-walk : (es ds : List Step) → 256 < length es → 256 < length ds → take 256 es ≡ take 256 ds
-      → walkTable N n w R es b ≡ walkTable N n w R ds b
+      → walkTable m N n w R es b ≡ walkTable m N n w R ds b
   unfolding walkTable
   long-walk es ds l k t =
       refused-same es ds (after (check N n w) (checkSteps N 0 es))
       (after-refused (check N n w) (checkSteps N 0 es) (long-refused N 256 0 es refl l))
-      ∙ ap (λ (o : Outcome (Unit {0})). walkChecked N n w R ds b (after (check N n w) o)) (long-same N 256 0 es ds refl l k t)
+      ∙ ap (λ (o : Outcome (Unit {0})). walkChecked m N n w R ds b (after (check N n w) o)) (long-same N 256 0 es ds refl l k t)
 
-  pub walk-columns : (es : List Step) → walkTable N n w R (stepsIn (columns es) (length es)) b ≡ walkTable N n w R es b
+  pub walk-columns : (es : List Step) → walkTable m N n w R (stepsIn (columns es) (length es)) b ≡ walkTable m N n w R es b
   walk-columns es = by (decLe (length es) 256)
     where
-      by : Dec (length es ≤ 256) → walkTable N n w R (stepsIn (columns es) (length es)) b ≡ walkTable N n w R es b
-      by (yes h) = ap (λ (z : List Step). walkTable N n w R z b) (steps-again es h)
+      by : Dec (length es ≤ 256) → walkTable m N n w R (stepsIn (columns es) (length es)) b ≡ walkTable m N n w R es b
+      by (yes h) = ap (λ (z : List Step). walkTable m N n w R z b) (steps-again es h)
       by (no h) =
           let l : 256 < length es = omega arith in
           let k : length (stepsIn (columns es) (length es)) ≡ length es = steps-length (columns es) (length es) in

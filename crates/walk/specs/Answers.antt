@@ -22,10 +22,10 @@ walkedOutcome (Walked.Variable i) = refused 55 i
 walkedOutcome (Walked.Refused r) = refusedBy r
 
 -- what the walk answers, and what it leaves in each buffer, for all inputs
-pub record WalkResult (N n : ℕ) (w : List ℕ) (R : ℕ) (es : List Step) (b b′ : WalkLent) (r : Walked) : Type 0 where
-  pub answer : walkedOutcome r ≡ walkTable N n w R es b .answer
-  pub positives : b′ .rows .positives ≡ walkTable N n w R es b .after .rows .positives
-  pub negatives : b′ .rows .negatives ≡ walkTable N n w R es b .after .rows .negatives
-  pub counts : b′ .rows .counts ≡ walkTable N n w R es b .after .rows .counts
-  pub statuses : b′ .statuses ≡ walkTable N n w R es b .after .statuses
-  pub compatibles : b′ .compatibles ≡ walkTable N n w R es b .after .compatibles
+pub record WalkResult (m : List ℕ) (N n : ℕ) (w : List ℕ) (R : ℕ) (es : List Step) (b b′ : WalkLent) (r : Walked) : Type 0 where
+  pub answer : walkedOutcome r ≡ walkTable m N n w R es b .answer
+  pub positives : b′ .rows .positives ≡ walkTable m N n w R es b .after .rows .positives
+  pub negatives : b′ .rows .negatives ≡ walkTable m N n w R es b .after .rows .negatives
+  pub counts : b′ .rows .counts ≡ walkTable m N n w R es b .after .rows .counts
+  pub statuses : b′ .statuses ≡ walkTable m N n w R es b .after .statuses
+  pub compatibles : b′ .compatibles ≡ walkTable m N n w R es b .after .compatibles

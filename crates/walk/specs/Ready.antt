@@ -17,32 +17,34 @@ use Rattle.listing.specs.Listing.{Lent}
 use Rattle.walk.specs.Walk.{checkSteps, compatible, afterEach}
 use Rattle.walk.specs.declared.Plan.{Plan}
 
--- the circuit is accepted, the first k steps are good, and the two buffers of the steps have k and m entries, the same number
-pub record StepsReady (h : Plan) (w : List ℕ) (k m : ℕ) : Type 0 where
+-- the circuit is accepted, the first k steps are good, and the two buffers of the steps have k and c entries, the same number
+pub record StepsReady (h : Plan) (w : List ℕ) (k c : ℕ) : Type 0 where
   pub accepts : check (h .variables) (h .nodes) w ≡ accepted
   pub good : checkSteps (h .variables) 0 (stepsIn (h .columns) k) ≡ accepted
-  pub even : m ≡ k
+  pub even : c ≡ k
 
--- the prime implicants of the circuit
-abbrev pub planPrimes : Plan → List ℕ → List Term
-planPrimes h w = primes (h .variables) (circuit (h .nodes) w)
+-- the prime implicants of the circuit, in order by the weights m
+abbrev pub planPrimes : List ℕ → Plan → List ℕ → List Term
+planPrimes m h w = primes m (h .variables) (circuit (h .nodes) w)
 
--- ps and ns are their masks
-pub record JudgeReady (h : Plan) (w ps ns : List ℕ) (k m : ℕ) : Type 0 where
-  pub steps : StepsReady h w k m
-  pub positives : ps ≡ masksOf true (planPrimes h w)
-  pub negatives : ns ≡ masksOf false (planPrimes h w)
+-- ps and ns are their masks, in order by some weights
+pub record JudgeReady (h : Plan) (w ps ns : List ℕ) (k c : ℕ) : Type 0 where
+  pub steps : StepsReady h w k c
+  pub weights : List ℕ
+  pub positives : ps ≡ masksOf true (planPrimes weights h w)
+  pub negatives : ns ≡ masksOf false (planPrimes weights h w)
   pub few : length ps ≤ maxCapacity
 
 -- they stand in the last node's part of the buffers b of a listing with room for R a node
-pub record WalkReady (h : Plan) (w : List ℕ) (b : Lent) (R k m : ℕ) : Type 0 where
-  pub steps : StepsReady h w k m
+pub record WalkReady (h : Plan) (w : List ℕ) (b : Lent) (R k c : ℕ) : Type 0 where
+  pub steps : StepsReady h w k c
+  pub weights : List ℕ
   pub small : R ≤ maxCapacity
-  pub few : length (planPrimes h w) ≤ R
+  pub few : length (planPrimes weights h w) ≤ R
   pub rows : (h .nodes * R ≤ length (b .positives)) × (h .nodes * R ≤ length (b .negatives)) × (h .nodes ≤ length (b .counts))
-  pub count : getD (b .counts) (pred (h .nodes)) 0 ≡ length (planPrimes h w)
-  pub positives : take (length (planPrimes h w)) (drop (pred (h .nodes) * R) (b .positives)) ≡ masksOf true (planPrimes h w)
-  pub negatives : take (length (planPrimes h w)) (drop (pred (h .nodes) * R) (b .negatives)) ≡ masksOf false (planPrimes h w)
+  pub count : getD (b .counts) (pred (h .nodes)) 0 ≡ length (planPrimes weights h w)
+  pub positives : take (length (planPrimes weights h w)) (drop (pred (h .nodes) * R) (b .positives)) ≡ masksOf true (planPrimes weights h w)
+  pub negatives : take (length (planPrimes weights h w)) (drop (pred (h .nodes) * R) (b .negatives)) ≡ masksOf false (planPrimes weights h w)
 
 -- ss and cs are the entries of the first k steps
 pub record Judged (h : Plan) (w : List ℕ) (k : ℕ) (ss cs : List ℕ) : Type 0 where

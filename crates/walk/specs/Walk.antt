@@ -1,5 +1,5 @@
--- The walk of a loading script through a circuit: N variables, n nodes, the table w, the steps es. The prime implicants of every node are
--- listed first. Then each prefix of the steps is judged by itself.
+-- The walk of a loading script through a circuit: N variables with the weights m, n nodes, the table w, the steps es. The prime implicants of
+-- every node are listed first. Then each prefix of the steps is judged by itself.
 use Prim.Native.Nat.{ℕ, suc}
 use mathlib.Core.Bool.{Bool, true, _&&_, _||_, not, cond}
 use mathlib.Core.List.{List, [], _∷_, _++_, map}
@@ -28,9 +28,9 @@ checkSteps N i (e ∷ es) =
     (cond (leb N (e .variable)) (refused 55 i) (checkSteps N (suc i) es))
 
 -- ---- a prefix by itself
--- how many prime implicants of f do not conflict with the term ("how many clearances don't clash with the marks")
+-- how many prime implicants of f do not conflict with the term ("how many clearances don't clash with the marks"); so many in any order
 unfoldable pub compatible : ℕ → (ℕ → Bool) → Term → ℕ
-compatible N f t = length (keep (λ u. not (conflict u t)) (primes N f))
+compatible N f t = length (keep (λ u. not (conflict u t)) (primes [] N f))
 
 -- what g says of the term that is known after each step in turn
 unfoldable pub afterEach : ℕ → (Term → ℕ) → List Step → List ℕ
@@ -76,12 +76,12 @@ abbrev pub stepsFit : List Step → WalkLent → Bool
 stepsFit es b = leb (length es) (length (b .statuses)) && leb (length es) (length (b .compatibles))
 
 -- by the answer of the check, 21 to 25, and of the steps, 54 and 55: then 41, and the listing's own refusals
-abbrev pub walkChecked : ℕ → ℕ → List ℕ → ℕ → List Step → WalkLent → Outcome (Unit {0}) → WalkOut
-walkChecked N n w R es b (refused k i) = record { answer = refused k i; after = b }
-walkChecked N n w R es b (answered u) =
-    let l : ListOut = listTable true N n w R (b .rows) in
+abbrev pub walkChecked : List ℕ → ℕ → ℕ → List ℕ → ℕ → List Step → WalkLent → Outcome (Unit {0}) → WalkOut
+walkChecked m N n w R es b (refused k i) = record { answer = refused k i; after = b }
+walkChecked m N n w R es b (answered u) =
+    let l : ListOut = listTable true m N n w R (b .rows) in
     cond (stepsFit es b) (walkListed N (circuit n w) es b (l .after) (l .answer)) (record { answer = refused 41 0; after = b })
 
 -- walking the steps with room for R rows a node
-unfoldable pub walkTable : ℕ → ℕ → List ℕ → ℕ → List Step → WalkLent → WalkOut
-walkTable N n w R es b = walkChecked N n w R es b (after (check N n w) (checkSteps N 0 es))
+unfoldable pub walkTable : List ℕ → ℕ → ℕ → List ℕ → ℕ → List Step → WalkLent → WalkOut
+walkTable m N n w R es b = walkChecked m N n w R es b (after (check N n w) (checkSteps N 0 es))

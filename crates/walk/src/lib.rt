@@ -18,6 +18,7 @@ ghost use Rattle.walk.specs.Known.{actState};
 ghost use Rattle.walk.specs.Ready.{JudgeReady, WalkReady, Judged};
 ghost use Rattle.walk.specs.Walk.{checkSteps, settled, walkLent};
 use listing::Listing;
+use listing::Shape;
 use states::State;
 use steps::Columns;
 use steps::MAX_STEPS;
@@ -189,13 +190,15 @@ fn walk_accepted(
     statuses: &mut [u32],
     compatibles: &mut [u32],
     words: &[u32],
+    weights: &[u32],
     plan: Plan,
     k: usize,
     capacity: usize,
 ) -> Walked
     requires { ⌜ (check (plan .variables) (plan .nodes) (now words) ≡ accepted)
         × (checkSteps (plan .variables) 0 (stepsIn (plan .columns) k) ≡ accepted) ⌝ }
-    ensures { λ r. ⌜ WalkResult (plan .variables) (plan .nodes) (now (words .entry)) capacity (stepsIn (plan .columns) k)
+    ensures { λ r. ⌜ WalkResult (now (weights .entry)) (plan .variables) (plan .nodes) (now (words .entry)) capacity
+        (stepsIn (plan .columns) k)
         (walkLent (lent (now (positives .entry)) (now (negatives .entry)) (now (counts .entry)))
         (now (statuses .entry)) (now (compatibles .entry)))
         (walkLent (lent (now (positives .exit)) (now (negatives .exit)) (now (counts .exit)))
@@ -204,16 +207,13 @@ fn walk_accepted(
     if (statuses.len() < k) | (compatibles.len() < k) {
         return Walked::Refused(Refusal::Buffers);
     }
-    match listing::list_accepted(
-        positives,
-        negatives,
-        counts,
-        words,
-        plan.variables,
-        plan.nodes,
+    let shape = Shape {
+        sign: true,
+        variables: plan.variables,
+        nodes: plan.nodes,
         capacity,
-        true,
-    ) {
+    };
+    match listing::list_accepted(positives, negatives, counts, words, weights, shape) {
         Listing::Refused(why) => Walked::Refused(why),
         Listing::Listed => walk_listed(
             &mut statuses[..k],
@@ -228,7 +228,7 @@ fn walk_accepted(
     }
 }
 
-// Walks the first k steps through the circuit, with room for so many rows a node. One lifetime serves all slices: a caller whose proof
+// Walks the first k steps through the circuit, with a weight for each variable and room for so many rows a node. One lifetime serves all slices: a caller whose proof
 // is a walk by hand lends them together.
 pub fn walk<'b>(
     positives: &'b mut [u64],
@@ -237,13 +237,14 @@ pub fn walk<'b>(
     statuses: &'b mut [u32],
     compatibles: &'b mut [u32],
     words: &'b [u32],
+    weights: &'b [u32],
     variables: u32,
     nodes: u32,
     columns: Columns,
     k: usize,
     capacity: u32,
 ) -> Walked
-    ensures { λ r. ⌜ WalkResult variables nodes (now (words .entry)) capacity (stepsIn columns k)
+    ensures { λ r. ⌜ WalkResult (now (weights .entry)) variables nodes (now (words .entry)) capacity (stepsIn columns k)
         (walkLent (lent (now (positives .entry)) (now (negatives .entry)) (now (counts .entry)))
         (now (statuses .entry)) (now (compatibles .entry)))
         (walkLent (lent (now (positives .exit)) (now (negatives .exit)) (now (counts .exit)))
@@ -267,6 +268,7 @@ pub fn walk<'b>(
                     statuses,
                     compatibles,
                     words,
+                    weights,
                     plan,
                     k,
                     capacity as usize,

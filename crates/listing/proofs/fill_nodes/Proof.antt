@@ -3,7 +3,7 @@
 use Prim.Native.Nat.{ℕ, _-_, _*_, _<_, _≤_}
 use mathlib.Core.Path.{_≡_, refl, sym, ap, subst, _∙_}
 use mathlib.Core.Bool.{Bool, true, false}
-use mathlib.Core.List.{List}
+use mathlib.Core.List.{List, []}
 use native.Mathlib.Nat.{lt-of-lt-of-le}
 use native.Mathlib.Omega.{arith}
 use native.Mathlib.Numerals.{add-one}
@@ -30,7 +30,7 @@ use Rattle.listing.proofs.fill_nodes.Tie as tie
 
 abbrev Inv-loop : tie.InvT-loop
 Inv-loop ps₀ ns₀ cs₀ ap₀ an₀ bp₀ bn₀ words shape i₀ ps ns cs ap an bp bn i =
-    (i ≤ shape .nodes) × State (shape .variables) (signedFunction (shape .sign) words) (shape .capacity) (shape .nodes) i (bySign ps ns) cs
+    (i ≤ shape .nodes) × State [] (shape .variables) (signedFunction (shape .sign) words) (shape .capacity) (shape .nodes) i (bySign ps ns) cs
     × ((length ap ≡ length ap₀) × (length an ≡ length an₀) × (length bp ≡ length bp₀) × (length bn ≡ length bn₀))
 
 abbrev μ-loop : tie.MeasureT-loop
@@ -103,10 +103,10 @@ listed s = signedFunction (s .args .shape .sign) (s .args .words .now)
 
 -- the prime implicants of a turn's node, and that the nodes below i are listed
 abbrev own : Loop → List Term
-own a = let s = start a in nodePrimes (s .args .shape .variables) (listed s) (a .loop .i)
+own a = let s = start a in nodePrimes [] (s .args .shape .variables) (listed s) (a .loop .i)
 
 abbrev Listed : (s : Start) → ℕ → (Bool → List ℕ) → List ℕ → Type 0
-Listed s i b cs = let h = s .args .shape in State (h .variables) (listed s) (h .capacity) (h .nodes) i b cs
+Listed s i b cs = let h = s .args .shape in State [] (h .variables) (listed s) (h .capacity) (h .nodes) i b cs
 
 -- the part was filled with the node's prime implicants
 told : (p : Called) (r : Kept) → p .fill-node .result ≡ r
@@ -145,7 +145,7 @@ loop-holds c =
     let x = s .args in
     let h = x .shape in (
       search needs,
-      state-start (h .variables) (listed s) (h .capacity) (h .nodes) (bySign (x .positives .now) (x .negatives .now)) (x .counts .now)
+      state-start [] (h .variables) (listed s) (h .capacity) (h .nodes) (bySign (x .positives .now) (x .negatives .now)) (x .counts .now)
           (s .pre .0 .masks) (s .pre .0 .counts),
       (refl, refl, refl, refl),
     )
@@ -221,7 +221,7 @@ returns c =
     let over : x .shape .capacity < length (own a) =
     kept-full (x .shape .capacity) (own a) (told p Full (c .enum-told .given .1) .answer) in
     tried-full (x .shape .variables) (x .shape .nodes) (listed s) (x .shape .capacity) (then p) (a .loop .counts)
-    (lt-of-lt-of-le over (no-more (accepts s) (x .shape .sign) (a .loop .i) lt))
+    (lt-of-lt-of-le over (no-more (accepts s) (x .shape .sign) [] (a .loop .i) lt))
 
 cast-counts : tie.Need-cast-counts Inv-loop μ-loop
 cast-counts c =

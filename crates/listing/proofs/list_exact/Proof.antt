@@ -6,13 +6,15 @@ use mathlib.Core.List.{List}
 use lib.ListN.{length}
 use borrow.Author.Needs.{needs}
 use Rattle.circuits.specs.Function.{signedFunction}
+use Rattle.circuits.proofs.Accepted.{accepted-e, variables-le, Accepted}
 use Rattle.insertion.specs.Filled.{bySign}
 use Rattle.listing.proofs.Answers.{exact-all, exact-none, zeros-of}
+use Rattle.listing.proofs.Bounds.{nodes-le}
 use Rattle.listing.proofs.list_exact.Statement.{statement}
 use Rattle.listing.proofs.list_exact.Tie as tie
 
 abbrev start : tie.After-clear → tie.Start
-start k = k .before .before .before .before .before .before .before .before
+start k = k .before .before .before .before .before .before .before .before .before
 
 -- after the first clearing, and after the loop over the nodes
 abbrev cleared : tie.After-fill-all → tie.After-clear
@@ -45,6 +47,22 @@ fill-all-requires c κs =
       counts = zeros-of (h .nodes) (k .clear .last .1 .1 .0) (x .counts .now) (z .2) (s .pre .0 .2);
     }
 
+accepts : (s : tie.Start) → Accepted (s .args .shape .variables) (s .args .shape .nodes) (s .args .words .now)
+accepts s = accepted-e (s .args .shape .variables) (s .args .shape .nodes) (s .args .words .now) (s .pre .0 .0)
+
+arrange-all-requires : tie.Need-arrange-all-requires
+arrange-all-requires c κs =
+    let f = c .before .before .before .before .before .before .before .before .before .before in
+    let s = start (cleared f) in
+    record {
+      variables-few = variables-le (accepts s);
+      nodes-few = nodes-le (accepts s);
+      small = s .pre .0 .1;
+      weights = s .pre .0 .3;
+      listed = listed s;
+      holds = f .fill-all .ensures .holds (c .before .before .before .if1 .taken);
+    }
+
 same-length : tie.Need-same-length
 same-length c = search needs
 
@@ -56,11 +74,14 @@ same-length-3 c = search needs
 
 returns : tie.Need-returns
 returns c =
-    let f = c .before .before .before .before .before .before .before in
+    let p = c .before .before .before .before in
+    let f = c .before .before .before .before .before .before .before .before .before .before .before .before .before .before .before in
+    let done = c .before .before .before .before .before .before .before .before .if1 .taken in
     let s = start (cleared f) in
     let h = s .args .shape in
-    exact-all (h .variables) (h .nodes) (listed s) (h .capacity) (buffers f) (f .fill-all .last .1 .1 .0) (f .fill-all .result)
-    (f .fill-all .ensures) (c .if1 .taken)
+    exact-all (s .args .weights .now) (h .variables) (h .nodes) (listed s) (h .capacity) (buffers f) (f .fill-all .last .1 .1 .0)
+    (f .fill-all .result) (f .fill-all .ensures) (bySign (p .arrange-all .last .0) (p .arrange-all .last .1 .0)) done
+    (p .arrange-all .ensures (listed s) (f .fill-all .ensures .holds done))
 
 clear-requires-2 : tie.Need-clear-requires-2
 clear-requires-2 c κs = search needs
@@ -87,7 +108,7 @@ returns-2 c =
     let p : length (f .fill-all .last .0) ≡ h .nodes * h .capacity = f .fill-all .kept .0 ∙ k .clear .kept .0 ∙ s .pre .1 .0 in
     let q : length (f .fill-all .last .1 .0) ≡ h .nodes * h .capacity = f .fill-all .kept .1 .0 ∙ k .clear .kept .1 .0 ∙ s .pre .1 .1 in
     let m : length (f .fill-all .last .1 .1 .0) ≡ h .nodes = f .fill-all .kept .1 .1 .0 ∙ k .clear .kept .1 .1 .0 ∙ s .pre .0 .2 in
-    exact-none (h .variables) (h .nodes) (listed s) (h .capacity) (buffers f) (f .fill-all .last .1 .1 .0) (f .fill-all .result)
+    exact-none (x .weights .now) (h .variables) (h .nodes) (listed s) (h .capacity) (buffers f) (f .fill-all .last .1 .1 .0) (f .fill-all .result)
     (f .fill-all .ensures) (bySign (z .clear2 .last .0) (z .clear2 .last .1 .0)) (z .clear2 .last .1 .1 .0) (e .if1 .left)
     (λ b. elim b [
       | true ↦ zeros-of (h .nodes * h .capacity) (z .clear2 .last .0) (f .fill-all .last .0) (d .0) p
@@ -101,6 +122,7 @@ list-exact-spec =
     (tie.spec
     clear-requires
     fill-all-requires
+    arrange-all-requires
     same-length
     same-length-2
     same-length-3

@@ -26,8 +26,8 @@ returns : tie.Need-returns
 returns c =
     let r = c .before in
     let h = r .before .before in
-    let x = h .before .before .before .before .before .args in
-    lists-refused (x .sign) (x .variables) (x .nodes) (x .words .now) (x .capacity)
+    let x = h .before .before .before .before .before .before .args in
+    lists-refused (x .sign) (x .weights .now) (x .variables) (x .nodes) (x .words .now) (x .capacity)
     (lent (x .positives .now) (x .negatives .now) (x .counts .now)) (r .refusal .given .0 .0)
     (sym (ap checked (r .refusal .given .1)) ∙ h .check .ensures)
 

@@ -2,7 +2,7 @@
 use Prim.Native.Nat.{ℕ}
 use mathlib.Core.Path.{_≡_, sym, subst}
 use mathlib.Core.Bool.{Bool, true, false}
-use mathlib.Core.List.{List}
+use mathlib.Core.List.{List, []}
 use borrow.Author.Needs.{needs}
 use Rattle.terms.specs.Joins.{conjunctionTerms}
 use Rattle.terms.specs.Lists.{sort}
@@ -21,7 +21,7 @@ slices s = bySign (s .args .positives .now) (s .args .negatives .now)
 abbrev Made : tie.Start → Bool → (Bool → List ℕ) → Kept → Type 0
 Made s c s′ k =
     let x = s .args in
-    Filled (sort before (conjunctionTerms c (termsOf (x .ap .now) (x .an .now)) (termsOf (x .bp .now) (x .bn .now)))) (slices s) s′ k
+    Filled (sort (before []) (conjunctionTerms c (termsOf (x .ap .now) (x .an .now)) (termsOf (x .bp .now) (x .bn .now)))) (slices s) s′ k
 
 -- what is made for the sign that it is
 made : (s : tie.Start) (c : Bool) (s′ : Bool → List ℕ) (k : Kept) → s .args .sign ≡ c → Made s c s′ k → Made s (s .args .sign) s′ k

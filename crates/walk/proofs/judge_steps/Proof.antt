@@ -119,7 +119,7 @@ counted d =
     let p = d .before .before in
     let a = turn (entered p) in
     let s = start a in
-    listed-compatible (N a) (f a) (s .args .positives .now) (s .args .negatives .now) (s .pre .positives) (s .pre .negatives) (next p)
+    listed-compatible (s .pre .weights) (N a) (f a) (s .args .positives .now) (s .args .negatives .now) (s .pre .positives) (s .pre .negatives) (next p)
     (d .count-compatible .ensures)
 
 loop-holds : tie.Need-loop-holds Inv-loop μ-loop
@@ -177,7 +177,7 @@ count-compatible-requires c κs =
     let a = turn (entered (c .before)) in
     let s = start a in (
       s .pre .few,
-      listed-even (N a) (f a) (s .args .positives .now) (s .args .negatives .now) (s .pre .positives) (s .pre .negatives),
+      listed-even (s .pre .weights) (N a) (f a) (s .args .positives .now) (s .args .negatives .now) (s .pre .positives) (s .pre .negatives),
     )
 
 mul-compatibles : tie.Need-mul-compatibles Inv-loop μ-loop

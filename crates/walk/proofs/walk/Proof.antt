@@ -24,7 +24,7 @@ module _ (s : tie.Start) where
       (s .args .compatibles .now)
 
 abbrev start : tie.After-check → tie.Start
-start p = p .before .before .before .before .before .before .before
+start p = p .before .before .before .before .before .before .before .before
 
 -- the circuit is accepted
 module _ (p : tie.After-check-steps) where
@@ -70,7 +70,7 @@ returns c =
     let p = r .before .before in
     let s = start p in
     let x = s .args in
-    walks-refused (x .variables) (x .nodes) (x .words .now) (x .capacity) (steps s) (buffers s) (r .why .given .0 .0)
+    walks-refused (x .weights .now) (x .variables) (x .nodes) (x .words .now) (x .capacity) (steps s) (buffers s) (r .why .given .0 .0)
     (sym (ap checked (r .why .given .1)) ∙ p .check .ensures)
 
 returns-2 : tie.Need-returns-2
@@ -79,7 +79,7 @@ returns-2 c =
     let p = r .before .before in
     let s = first p in
     let x = s .args in
-    walks-act (x .variables) (x .nodes) (x .words .now) (x .capacity) (steps s) (buffers s) (table p) (r .i .given .0 .0)
+    walks-act (x .weights .now) (x .variables) (x .nodes) (x .words .now) (x .capacity) (steps s) (buffers s) (table p) (r .i .given .0 .0)
     (sym (ap stepsOutcome (r .i .given .1)) ∙ p .check-steps .ensures)
 
 returns-3 : tie.Need-returns-3
@@ -88,7 +88,7 @@ returns-3 c =
     let p = r .before .before in
     let s = first p in
     let x = s .args in
-    walks-variable (x .variables) (x .nodes) (x .words .now) (x .capacity) (steps s) (buffers s) (table p) (r .i2 .given .0 .0)
+    walks-variable (x .weights .now) (x .variables) (x .nodes) (x .words .now) (x .capacity) (steps s) (buffers s) (table p) (r .i2 .given .0 .0)
     (sym (ap stepsOutcome (r .i2 .given .1)) ∙ p .check-steps .ensures)
 
 same-length : tie.Need-same-length

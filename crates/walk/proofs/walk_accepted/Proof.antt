@@ -41,14 +41,14 @@ module _ (s : tie.Start) where
       → stepsFit steps buffers ≡ not b
   tested b e = fits-by steps buffers (s .args .k) count b e
 
-abbrev start : tie.After-shared-slice-known → tie.Start
-start p = p .before .before .before .before .before .before
+abbrev start : tie.After-shared-slice-known2 → tie.Start
+start p = p .before .before .before .before .before .before .before
 
 returns : tie.Need-returns
 returns c =
     let s = start (c .before) in
     let x = s .args in
-    walks-short (x .plan .variables) (x .plan .nodes) (x .words .now) (x .capacity) (steps s) (buffers s) (s .pre .0) (s .pre .1)
+    walks-short (x .weights .now) (x .plan .variables) (x .plan .nodes) (x .words .now) (x .capacity) (steps s) (buffers s) (s .pre .0) (s .pre .1)
     (tested s true (c .if1 .taken))
 
 -- ---- after the listing
@@ -91,11 +91,11 @@ done e = e .before .before .before .before .before .before .before .before
 listed : (e : tie.After-enum-told)
     → let p = done e in
     let x = first p .args in
-    ListResult true (x .plan .variables) (x .plan .nodes) (x .words .now) (x .capacity) (rows (first p)) (listing p) Listed
+    ListResult true (x .weights .now) (x .plan .variables) (x .plan .nodes) (x .words .now) (x .capacity) (rows (first p)) (listing p) Listed
 listed e =
     let p = done e in
     let x = first p .args in
-    subst (ListResult true (x .plan .variables) (x .plan .nodes) (x .words .now) (x .capacity) (rows (first p)) (listing p))
+    subst (ListResult true (x .weights .now) (x .plan .variables) (x .plan .nodes) (x .words .now) (x .capacity) (rows (first p)) (listing p))
     (e .enum-told .given .1) (p .list-accepted .ensures)
 
 slice-relend-prefix-walk-listed : tie.Need-slice-relend-prefix-walk-listed
@@ -118,7 +118,7 @@ walk-listed-requires c κs =
     let x = s .args in
     let good =
     subst (λ (m : ℕ). checkSteps (x .plan .variables) 0 (stepsIn (x .plan .columns) m) ≡ accepted) (sym (statuses-size p)) (s .pre .1) in
-    walk-ready (x .plan) (x .words .now) (x .capacity) _ _ (rows s) (listing p)
+    walk-ready (x .weights .now) (x .plan) (x .words .now) (x .capacity) _ _ (rows s) (listing p)
     (record { accepts = s .pre .0; good = good; even = compatibles-size p ∙ sym (statuses-size p) }) (listed e)
     (p .list-accepted .kept .0) (p .list-accepted .kept .1 .0) (p .list-accepted .kept .1 .1 .0)
 
@@ -137,7 +137,7 @@ returns-2 c =
     let p = r .before .before .before .before .before .before .before .before in
     let s = first p in
     let x = s .args in
-    walks-lack (x .plan .variables) (x .plan .nodes) (x .words .now) (x .capacity) (steps s) (buffers s) (s .pre .0) (s .pre .1) (fits p)
+    walks-lack (x .weights .now) (x .plan .variables) (x .plan .nodes) (x .words .now) (x .capacity) (steps s) (buffers s) (s .pre .0) (s .pre .1) (fits p)
     (listing p) (p .list-accepted .result) (p .list-accepted .ensures) (r .why .given .0 .0) (r .why .given .1)
 
 same-length-4 : tie.Need-same-length-4
@@ -169,7 +169,7 @@ returns-3 c =
     λ g l d. d ∙ ap (λ (j : ℕ). afterEach N g (stepsIn (x .plan .columns) j)) (statuses-size p) in
     let ss = all (status N f) (q .walk-listed .last .0) (q .walk-listed .ensures .1 .statuses) in
     let cs = all (compatible N f) (q .walk-listed .last .1 .0) (q .walk-listed .ensures .1 .compatibles) in
-    walks-all N (x .plan .nodes) (x .words .now) (x .capacity) (steps s) (buffers s) (s .pre .0) (s .pre .1) (fits p) (listing p) Listed
+    walks-all (x .weights .now) N (x .plan .nodes) (x .words .now) (x .capacity) (steps s) (buffers s) (s .pre .0) (s .pre .1) (fits p) (listing p) Listed
     (listed e) refl _ _ (q .walk-listed .result) (q .walk-listed .ensures .0 ∙ ap (λ (l : List ℕ). answered (settled l)) ss)
     (ap₂ (λ (l : List ℕ) (m : ℕ). l ++ drop m (x .statuses .now)) ss (sym (count s)))
     (ap₂ (λ (l : List ℕ) (m : ℕ). l ++ drop m (x .compatibles .now)) cs (sym (count s)))

@@ -32,7 +32,7 @@ module _ (s : tie.Start) where
 
   -- the prime implicants of the circuit, and where they start
   abbrev rows : List Term
-  rows = planPrimes (s .args .plan) (s .args .words .now)
+  rows = planPrimes (s .pre .weights) (s .args .plan) (s .args .words .now)
 
   abbrev from : ℕ
   from = (n - 1) * R
@@ -119,6 +119,7 @@ judge-steps-requires c κs =
     let small : R s ≤ maxCapacity = s .pre .small in
     record {
       steps = s .pre .steps;
+      weights = s .pre .weights;
       positives = p;
       negatives = lent-part s (s .args .negatives .now) (masksOf false l) (s .pre .negatives);
       few = le-trans (le-of-eq (ap length p ∙ length-masks true l)) (le-trans few small);

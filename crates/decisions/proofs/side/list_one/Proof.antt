@@ -1,7 +1,7 @@
 -- `decisions::side::list_one` meets its contract.
 use mathlib.Core.Path.{_≡_, ap, subst, _∙_}
 use mathlib.Core.Bool.{Bool}
-use mathlib.Core.List.{List}
+use mathlib.Core.List.{List, []}
 use Prim.Native.Nat.{ℕ}
 use Rattle.terms.specs.Lists.{insert}
 use Rattle.terms.specs.Order.{before}
@@ -42,10 +42,10 @@ Looked s = let x = s .args in FoundInside (x .bp .now) (x .bn .now) (termAt (x .
 
 told : (p : tie.After-insert) (r : Kept) → p .insert .result ≡ r
     → let s = start (place p) in
-    Filled (insert before (wide p) (held (slices s) (s .args .counts .listed))) (slices s) (then p) r
+    Filled (insert (before []) (wide p) (held (slices s) (s .args .counts .listed))) (slices s) (then p) r
 told p r e =
     let s = start (place p) in
-    subst (Filled (insert before (wide p) (held (slices s) (s .args .counts .listed))) (slices s) (then p)) e (p .insert .ensures)
+    subst (Filled (insert (before []) (wide p) (held (slices s) (s .args .counts .listed))) (slices s) (then p)) e (p .insert .ensures)
 
 made : (p : tie.After-insert) → let x = start (place p) .args in
     wide p ≡ extend (termAt (x .ap .now) (x .an .now) (x .one .at)) (x .literal .variable) (x .literal .sign)

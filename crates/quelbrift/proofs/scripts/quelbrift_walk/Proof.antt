@@ -101,18 +101,20 @@ slice y = sliceVal (y .ptr) (length (y .now)) ∷ []
 abbrev word : ℕ → List Val
 word a = vint w32 a ∷ []
 
--- The words w and the buffers are lent for κ, the list x for κ′. The buffers: p and m for the masks, c for the counts, s for the
--- statuses, d for the numbers of compatible terms.
+-- The words w, the weights g and the buffers are lent for κ, the list x for κ′. The buffers: p and m for the masks, c for the counts, s for
+-- the statuses, d for the numbers of compatible terms.
 module _ {M : Type 1} (𝓤 : URA M) (H : Heap 𝓤) (A : Atoms 𝓤) (W : Given 𝓤 H A) (mem : Memory → SProp 𝓤) (run : Routine → Fun 𝓤)
-    (κ κ′ : Lft) (q q′ : Share) (w : RefT (List ℕ)) (N n R : ℕ) (x : RefT (List Step)) (p m c s d : RefT (List ℕ)) where
+    (κ κ′ : Lft) (q q′ : Share) (w : RefT (List ℕ)) (N n : ℕ) (g : RefT (List ℕ)) (R : ℕ) (x : RefT (List Step))
+    (p m c s d : RefT (List ℕ)) where
   abbrev κs : Lfts 2
   κs = (κ, (κ′, tt))
 
   abbrev args : Args f.signature κs
-  args = (w, (N, (n, (R, (x, (p, (m, (c, (s, (d, tt))))))))))
+  args = (w, (N, (n, (g, (R, (x, (p, (m, (c, (s, (d, tt)))))))))))
 
   abbrev at : Vals f.signature κs
-  at = (slice w, (word N, (word n, (word R, (slice x, (slice p, (slice m, (slice c, (slice s, (slice d, tt))))))))))
+  at =
+      (slice w, (word N, (word n, (slice g, (word R, (slice x, (slice p, (slice m, (slice c, (slice s, (slice d, tt)))))))))))
 
   abbrev Walking : Contract 𝓤
   Walking = walkOf 𝓤 H A f.ended stayed (f.clauses 𝓤 H A mem run)
@@ -121,8 +123,8 @@ module _ {M : Type 1} (𝓤 : URA M) (H : Heap 𝓤) (A : Atoms 𝓤) (W : Given
   bound = ((κs, (q, (q′, tt)), tt, args, at), tt)
 
   -- what the parameters own
-  abbrev Words : Item 𝓤
-  Words = ‵ (ShrSlice (named 0) κ u32 .own w (slice w))
+  abbrev Shared : RefT (List ℕ) → Item 𝓤
+  Shared y = ‵ (ShrSlice (named 0) κ u32 .own y (slice y))
 
   abbrev Number : ℕ → Item 𝓤
   Number a = ‵ (u32 .own a (word a))
@@ -151,25 +153,58 @@ module _ {M : Type 1} (𝓤 : URA M) (H : Heap 𝓤) (A : Atoms 𝓤) (W : Given
   k = length (now x)
 
   abbrev handed : Args core.signature (κ, tt)
-  handed = (p, (m, (c, (s, (d, (w, (N, (n, (cols, (k, (R, tt)))))))))))
+  handed = (p, (m, (c, (s, (d, (w, (g, (N, (n, (cols, (k, (R, tt))))))))))))
 
   abbrev handed-at : Val → Vals core.signature (κ, tt)
-  handed-at u =
-      (slice p, (slice m, (slice c, (slice s, (slice d, (slice w, (word N, (word n, (u ∷ [], (vint w64 k ∷ [], (word R, tt)))))))))))
+  handed-at u = (
+    slice p,
+    (
+      slice m,
+      (
+        slice c,
+        (
+          slice s,
+          (
+            slice d,
+            (
+              slice w,
+              (
+                slice g,
+                (
+                  word N,
+                  (
+                    word n,
+                    (
+                      u ∷ [],
+                      (
+                        vint w64 k ∷ [],
+                        (word R, tt),
+                      ),
+                    ),
+                  ),
+                ),
+              ),
+            ),
+          ),
+        ),
+      ),
+    ),
+  )
 
   abbrev to-walk : Val → Walk 𝓤 H A mem run .Ghost
   to-walk u = (((κ, tt), (q, tt), tt, handed, handed-at u), tt)
 
   abbrev Handed : List (Item 𝓤)
   Handed =
-      ‵ (flft κ q) ∷ Lent u64 p ∷ Lent u64 m ∷ Lent u32 c ∷ Lent u32 s ∷ Lent u32 d ∷ Words ∷ Number N ∷ Number n ∷ Number R ∷ []
+      ‵ (flft κ q) ∷ Lent u64 p ∷ Lent u64 m ∷ Lent u32 c ∷ Lent u32 s ∷ Lent u32 d ∷ Shared w ∷ Shared g ∷ Number N ∷ Number n
+      ∷ Number R ∷ []
 
   goes-walk : (u : Val) → Is P.the-row cols (u ∷ []) → k < 2 ^ 64 → ent 𝓤 (⋆ 𝓤 H A Handed) (Walk 𝓤 H A mem run .pre (to-walk u))
   goes-walk u is fits =
       qed W Handed ∵ number ! k fits $
       owned ! P.the-row (Is P.the-row) (LL.makes P.the-type P′.the-plain 𝓤 H A) cols (u ∷ []) is $ nothing ! $
-      -- [true; the columns; k; the token; the buffers; the words; N; n; R]
-      move ! (4 ∷ 5 ∷ 6 ∷ 7 ∷ 8 ∷ 9 ∷ 10 ∷ 11 ∷ 1 ∷ 2 ∷ 12 ∷ 0 ∷ []) $ group ! 12 $
+      -- [true; the columns; k; the token; the buffers; the words; the weights; N; n; R]
+      move ! (4 ∷ 5 ∷ 6 ∷ 7 ∷ 8 ∷ 9 ∷ 10 ∷ 11 ∷ 12 ∷ 1 ∷ 2 ∷ 13 ∷ 0 ∷ []) $ group ! 13 $
       nothing ! $ move ! (2 ∷ 0 ∷ []) $ join ! $ join ! $ frame ! $ done !
 
   -- that of `walk_answer`; v is the machine value of r
@@ -190,7 +225,7 @@ module _ {M : Type 1} (𝓤 : URA M) (H : Heap 𝓤) (A : Atoms 𝓤) (W : Given
   after zs = walkLent (lent (zs .0) (zs .1 .0) (zs .1 .1 .0)) (zs .1 .1 .1 .0) (zs .1 .1 .1 .1 .0)
 
   abbrev Said : Walked → Finals → Type 0
-  Said r zs = WalkResult N n (now w) R (stepsIn cols k) before (after zs) r
+  Said r zs = WalkResult (now g) N n (now w) R (stepsIn cols k) before (after zs) r
 
   -- how the walk ends: at the answer to r, with what is said of each buffer's last value
   abbrev Last : (U : RattleType) → RefT (List (U .Denot)) → List (U .Denot) → Item 𝓤
@@ -201,59 +236,59 @@ module _ {M : Type 1} (𝓤 : URA M) (H : Heap 𝓤) (A : Atoms 𝓤) (W : Given
   exits r v (ps, (ns, (cs, (ss, (ds, zs))))) said is =
       let a : Answer = answerOf numbers (walkedOutcome r) in
       qed W (‵ (flft κ q) ∷ ‵ (flft κ′ q′) ∷ Last u64 p ps ∷ Last u64 m ns ∷ Last u32 c cs ∷ Last u32 s ss ∷ Last u32 d ds
-      ∷ None ∷ None ∷ None ∷ None ∷ None ∷ None ∷ None ∷ []) ∵
+      ∷ None ∷ None ∷ None ∷ None ∷ None ∷ None ∷ None ∷ None ∷ []) ∵
       suffices ! _ (ends-at 𝓤 H A f.ended stayed (f.clauses 𝓤 H A mem run) W bound v a
-      (tt, (tt, (tt, (tt, (tt, (ps, (ns, (cs, (ss, (ds, tt))))))))))
-      (tt, (tt, (tt, (tt, (tt, (tt, (tt, (tt, (tt, (tt, tt))))))))))) $
-      says ! (walked-columns N n (now w) R (now x) said) $ move ! (0 ∷ 1 ∷ 7 ∷ []) $ group ! 3 $ frame ! $
-      -- [the last values; true; …]: the first five parameters have none
-      move ! (5 ∷ 6 ∷ 7 ∷ 8 ∷ 9 ∷ 0 ∷ 1 ∷ 2 ∷ 3 ∷ 4 ∷ 10 ∷ []) $ group ! 11 $ frame ! $
+      (tt, (tt, (tt, (tt, (tt, (tt, (ps, (ns, (cs, (ss, (ds, tt)))))))))))
+      (tt, (tt, (tt, (tt, (tt, (tt, (tt, (tt, (tt, (tt, (tt, tt)))))))))))) $
+      says ! (walked-columns (now g) N n (now w) R (now x) said) $ move ! (0 ∷ 1 ∷ 7 ∷ []) $ group ! 3 $ frame ! $
+      -- [the last values; true; …]: the first six parameters have none
+      move ! (5 ∷ 6 ∷ 7 ∷ 8 ∷ 9 ∷ 10 ∷ 0 ∷ 1 ∷ 2 ∷ 3 ∷ 4 ∷ 11 ∷ []) $ group ! 12 $ frame ! $
       owned ! B.the-row (Is B.the-row) (LL.makes B.the-type B′.the-plain 𝓤 H A) a (v ∷ []) is $ done !
 
   module _ (C : Calls 𝓤 H) (Λ : Loops 𝓤 H) (fm : FmC 𝓤 H (W .laws) C) (known : Known 𝓤 H A mem run C) where
-    walk : Room u32 (length (now w)) → N < 2 ^ 32 → n < 2 ^ 32 → R < 2 ^ 32 → Room T.the-row k → Room u64 (length (now p))
-        → Room u64 (length (now m)) → Room u32 (length (now c)) → Room u32 (length (now s)) → Room u32 (length (now d))
+    walk : Room u32 (length (now w)) → N < 2 ^ 32 → n < 2 ^ 32 → Room u32 (length (now g)) → R < 2 ^ 32 → Room T.the-row k
+        → Room u64 (length (now p)) → Room u64 (length (now m)) → Room u32 (length (now c)) → Room u32 (length (now s)) → Room u32 (length (now d))
         → ent 𝓤 (onEntry 𝓤 H A f.signature κs (q, (q′, tt)) args at)
         (WpFn 𝓤 H C Λ code.function (Walking .args bound) (Walking .post bound))
-    walk room-w N-fits n-fits R-fits room-x room-p room-m room-c room-s room-d =
-        qed W ((‵ (flft κ q) ⊛ ‵ (flft κ′ q′) ⊛ ‵ ftrue) ∷ Words ∷ Number N ∷ Number n ∷ Number R ∷ Steps
+    walk room-w N-fits n-fits room-g R-fits room-x room-p room-m room-c room-s room-d =
+        qed W ((‵ (flft κ q) ⊛ ‵ (flft κ′ q′) ⊛ ‵ ftrue) ∷ Shared w ∷ Number N ∷ Number n ∷ Shared g ∷ Number R ∷ Steps
         ∷ Lent u64 p ∷ Lent u64 m ∷ Lent u32 c ∷ Lent u32 s ∷ Lent u32 d ∷ None ∷ []) ∵ split ! $ move ! (1 ∷ []) $ split ! $
-        -- [κ′'s token; true; κ's token; the words; N; n; R; the list; the buffers; true]
-        keep ! (2 ∷ 8 ∷ 9 ∷ 10 ∷ 11 ∷ 12 ∷ 3 ∷ 4 ∷ 5 ∷ 6 ∷ 7 ∷ 0 ∷ []) $ group ! 10 $ move ! (1 ∷ 2 ∷ []) $
+        -- [κ′'s token; true; κ's token; the words; N; n; the weights; R; the list; the buffers; true]
+        keep ! (2 ∷ 9 ∷ 10 ∷ 11 ∷ 12 ∷ 13 ∷ 3 ∷ 6 ∷ 4 ∷ 5 ∷ 7 ∷ 8 ∷ 0 ∷ []) $ group ! 11 $ move ! (1 ∷ 2 ∷ []) $
         use2 W (raw (ColumnsOf 𝓤 H A mem run .pre to-columns)) goes-columns $
         -- [what `columns_of` asks; what is handed to `walk`]
         enter ! C Λ code.function (Walking .args bound) _ $ allocates ! (λ bs. params1 ! $
-        pass1 ! (init ! 44 refl (sliced (room-w .0))) $ pass1 ! (init ! 42 refl (tt, record { fits = N-fits })) $
-        pass1 ! (init ! 40 refl (tt, record { fits = n-fits })) $ pass1 ! (init ! 38 refl (tt, record { fits = R-fits })) $
+        pass1 ! (init ! 46 refl (sliced (room-w .0))) $ pass1 ! (init ! 44 refl (tt, record { fits = N-fits })) $
+        pass1 ! (init ! 42 refl (tt, record { fits = n-fits })) $ pass1 ! (init ! 40 refl (sliced (room-g .0))) $ pass1 ! (init ! 38 refl (tt, record { fits = R-fits })) $
         pass1 ! (init ! 36 refl (sliced (room-x .0))) $ pass1 ! (init ! 34 refl (sliced (room-p .0))) $
         pass1 ! (init ! 32 refl (sliced (room-m .0))) $ pass1 ! (init ! 30 refl (sliced (room-c .0))) $
         pass1 ! (init ! 28 refl (sliced (room-s .0))) $ pass1 ! (init ! 26 refl (sliced (room-d .0))) $ pass0 ! $
-        -- [_23; …; _22; …; and so on to _0; …; and these two]: the local _i is entry 46 - 2i
+        -- [_24; …; _23; …; and so on to _0; …; and these two]: the local _i is entry 48 - 2i
         lends-on ! 34 22 20 (refl, refl, refl) (refl, refl) (refl, refl, refl) (room-p .0) $
         lends-on ! 32 18 16 (refl, refl, refl) (refl, refl) (refl, refl, refl) (room-m .0) $
         lends-on ! 30 14 12 (refl, refl, refl) (refl, refl) (refl, refl, refl) (room-c .0) $
         lends-on ! 28 10 8 (refl, refl, refl) (refl, refl) (refl, refl, refl) (room-s .0) $
-        lends-on ! 26 6 4 (refl, refl, refl) (refl, refl) (refl, refl, refl) (room-d .0) $ move ! (48 ∷ []) $
-        -- [what `columns_of` asks; _23; …; what is handed to `walk`]
+        lends-on ! 26 6 4 (refl, refl, refl) (refl, refl) (refl, refl, refl) (room-d .0) $ move ! (50 ∷ []) $
+        -- [what `columns_of` asks; _24; …; what is handed to `walk`]
         calls-at ! fm (ColumnsOf 𝓤 H A mem run) (known .columns-met) to-columns (arg ! 37 refl (no-more !)) (λ u.
         returned ! tt columned.ended (columned.clauses 𝓤 H A mem run) to-columns u cols (λ z e. id⊢ 𝓤 _) (λ is.
         drop ! $ token ! κ′ q′ $
-        -- [κ′'s token; _23; …; what is handed to `walk`]
+        -- [κ′'s token; _24; …; what is handed to `walk`]
         land ! (from ! (stop !)) (init ! 3 refl (LL.lawful P.the-type P′.the-laws 𝓤 H A W .typed cols _ is .0)) $
         assigns ! (of-opd ! (count ! 37 refl refl)) (from ! (stop !)) (init ! 1 refl (tt, record { fits = room-x .0 })) $
-        move ! (49 ∷ []) $ use1 W (raw (Walk 𝓤 H A mem run .pre (to-walk u))) (goes-walk u is (room-x .0)) $
-        -- [what `walk` asks; κ′'s token; _23; …]
+        move ! (51 ∷ []) $ use1 W (raw (Walk 𝓤 H A mem run .pre (to-walk u))) (goes-walk u is (room-x .0)) $
+        -- [what `walk` asks; κ′'s token; _24; …]
         calls-told ! fm core.ended (core.clauses 𝓤 H A mem run) (known .walk-met) (to-walk u)
-        (arg ! 22 refl (arg ! 18 refl (arg ! 14 refl (arg ! 10 refl (arg ! 6 refl (arg ! 46 refl (arg ! 44 refl (arg ! 42 refl
-        (arg ! 4 refl (arg ! 2 refl (arg ! 40 refl (no-more !)))))))))))) Said (λ r zs. id⊢ 𝓤 _) (λ v r zs said is-r.
+        (arg ! 22 refl (arg ! 18 refl (arg ! 14 refl (arg ! 10 refl (arg ! 6 refl (arg ! 48 refl (arg ! 42 refl (arg ! 46 refl
+        (arg ! 44 refl (arg ! 4 refl (arg ! 2 refl (arg ! 40 refl (no-more !))))))))))))) Said (λ r zs. id⊢ 𝓤 _) (λ v r zs said is-r.
         move ! (1 ∷ []) $ token ! κ q $ move ! (0 ∷ 2 ∷ []) $
-        -- [κ's token; κ′'s token; the last values; _23; …]
+        -- [κ's token; κ′'s token; the last values; _24; …]
         land ! (from ! (stop !)) (init ! 27 refl (EL.lawful E.the-type E′.the-laws 𝓤 H A W tt .typed r _ is-r .0)) $
         let a : Answer = answerOf numbers (walkedOutcome r) in
         calls-plain ! fm answer.ended (answer.clauses 𝓤 H A mem run) (known .answer-met) (to-answer r v) (goes-answer r v is-r)
         (arg ! 28 refl (no-more !)) a (λ z ws. id⊢ 𝓤 _) (λ v′ is-a.
-        land ! (from ! (stop !)) (init ! 49 refl (LL.lawful B.the-type B′.the-laws 𝓤 H A W .typed a _ is-a .0)) $
-        returns ! (look ! 49 refl) $ frees-all ! 3 _ refl $ by ! (exits r v′ zs said is-a))))))
+        land ! (from ! (stop !)) (init ! 51 refl (LL.lawful B.the-type B′.the-laws 𝓤 H A W .typed a _ is-a .0)) $
+        returns ! (look ! 51 refl) $ frees-all ! 3 _ refl $ by ! (exits r v′ zs said is-a))))))
 
 module _ {M : Type 1} (𝓤 : URA M) (H : Heap 𝓤) (A : Atoms 𝓤) (W : Given 𝓤 H A) (mem : Memory → SProp 𝓤) (run : Routine → Fun 𝓤)
     (𝓣 : Tables 𝓤 H) (known : Known 𝓤 H A mem run (𝓣 .C)) where
@@ -262,19 +297,19 @@ module _ {M : Type 1} (𝓤 : URA M) (H : Heap 𝓤) (A : Atoms 𝓤) (W : Given
       walked 𝓤 H A f.ended stayed (f.clauses 𝓤 H A mem run) (WpFn 𝓤 H (𝓣 .C) (𝓣 .Λ) code.function)
       (λ κs.
       let a = uint-vals w32 in
-      (slice-vals, (a, (a, (a, (slice-vals, (slice-vals, (slice-vals, (slice-vals, (slice-vals, (slice-vals, tt)))))))))))
+      (slice-vals, (a, (a, (slice-vals, (a, (slice-vals, (slice-vals, (slice-vals, (slice-vals, (slice-vals, (slice-vals, tt))))))))))))
       (λ κs.
       let a = uint-tells w32 in
       let words = shr-slice-tells (named 0) (κs .0) u32 in
       let steps = shr-slice-tells (named 1) (κs .1 .0) T.the-row in
       let masks = mut-slice-tells (named 0) (κs .0) u64 in
       let counts = mut-slice-tells (named 0) (κs .0) u32 in
-      (words, (a, (a, (a, (steps, (masks, (masks, (counts, (counts, (counts, tt)))))))))))
-      (λ κs qs bounds a g are.
-      let (w, (N, (n, (R, (x, (p, (m, (c, (s, (d, _)))))))))) = a in
-      let (is-w, (is-N, (is-n, (is-R, (is-x, (is-p, (is-m, (is-c, (is-s, (is-d, _)))))))))) = are in
-      via 𝓤 _ (fst∗ 𝓤 _ (emp 𝓤)) (walk 𝓤 H A W mem run (κs .0) (κs .1 .0) (qs .0) (qs .1 .0) w N n R x p m c s d (𝓣 .C) (𝓣 .Λ)
-      (fmOf 𝓤 H (W .laws) 𝓣) known (is-w .0 .1) (is-N .1) (is-n .1) (is-R .1) (is-x .0 .1) (is-p .0 .1) (is-m .0 .1) (is-c .0 .1)
+      (words, (a, (a, (words, (a, (steps, (masks, (masks, (counts, (counts, (counts, tt))))))))))))
+      (λ κs qs bounds a vs are.
+      let (w, (N, (n, (g, (R, (x, (p, (m, (c, (s, (d, _))))))))))) = a in
+      let (is-w, (is-N, (is-n, (is-g, (is-R, (is-x, (is-p, (is-m, (is-c, (is-s, (is-d, _))))))))))) = are in
+      via 𝓤 _ (fst∗ 𝓤 _ (emp 𝓤)) (walk 𝓤 H A W mem run (κs .0) (κs .1 .0) (qs .0) (qs .1 .0) w N n g R x p m c s d (𝓣 .C) (𝓣 .Λ)
+      (fmOf 𝓤 H (W .laws) 𝓣) known (is-w .0 .1) (is-N .1) (is-n .1) (is-g .0 .1) (is-R .1) (is-x .0 .1) (is-p .0 .1) (is-m .0 .1) (is-c .0 .1)
       (is-s .0 .1) (is-d .0 .1)))
 
   meets : Meets 𝓤 H A f.signature (WpFn 𝓤 H (𝓣 .C) (𝓣 .Λ) code.function) (f.spec 𝓤 H A mem run)

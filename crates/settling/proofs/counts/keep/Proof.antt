@@ -1,7 +1,7 @@
 -- `settling::counts::keep` meets its contract.
 use mathlib.Core.Path.{_≡_, subst}
 use mathlib.Core.Bool.{Bool}
-use mathlib.Core.List.{List}
+use mathlib.Core.List.{List, []}
 use Prim.Native.Nat.{ℕ}
 use Rattle.terms.specs.Lists.{insert}
 use Rattle.terms.specs.Order.{before}
@@ -19,12 +19,12 @@ then p = bySign (p .insert .last .0) (p .insert .last .1 .0)
 -- what the insertion made
 told : (p : tie.After-insert) (r : Kept) → p .insert .result ≡ r
     → let x = p .before .before .before .before .before .before .args in
-    Filled (insert before (x .t) (held (bySign (x .positives .now) (x .negatives .now)) (x .counts .listed)))
+    Filled (insert (before []) (x .t) (held (bySign (x .positives .now) (x .negatives .now)) (x .counts .listed)))
     (bySign (x .positives .now) (x .negatives .now)) (then p) r
 told p r e =
     let x = p .before .before .before .before .before .before .args in
     subst
-    (λ (q : Kept). Filled (insert before (x .t) (held (bySign (x .positives .now) (x .negatives .now)) (x .counts .listed)))
+    (λ (q : Kept). Filled (insert (before []) (x .t) (held (bySign (x .positives .now) (x .negatives .now)) (x .counts .listed)))
     (bySign (x .positives .now) (x .negatives .now)) (then p) q) e (p .insert .ensures)
 
 insert-requires : tie.Need-insert-requires

@@ -1,12 +1,12 @@
--- `nodes::copy` meets its contract. The loop's invariant: the first i entries are those from `at` on.
+-- `buffers::copy` meets its contract. The loop's invariant: the first i entries are those from `at` on.
 use Prim.Native.Nat.{ℕ, _-_, _≤_}
 use mathlib.Core.Path.{_≡_, sym, ap, _∙_}
 use native.Mathlib.Omega.{arith}
 use lib.ListN.{length, take, drop, length-set}
 use borrow.Author.Needs.{needs}
-use Rattle.nodes.proofs.Parts.{copy-more}
-use Rattle.nodes.proofs.copy.Statement.{statement}
-use Rattle.nodes.proofs.copy.Tie as tie
+use Rattle.buffers.proofs.Copies.{copy-more}
+use Rattle.buffers.proofs.copy.Statement.{statement}
+use Rattle.buffers.proofs.copy.Tie as tie
 
 abbrev Inv-loop : tie.InvT-loop
 Inv-loop to₀ from at count i₀ to i = (i ≤ count) × (take i to ≡ take i (drop at from)) × (length to ≡ length to₀)

@@ -1,0 +1,4 @@
+pub mod Scans
+pub mod Weights
+pub mod Filling
+pub mod Sums

@@ -10,6 +10,7 @@
 
 static uint8_t text[QUELBRIFT_MAX_TEXT + 1]; /* one byte more: a text that is too long shows */
 static uint32_t words[NODES * QUELBRIFT_NODE_WORDS], counts[NODES], statuses[STEPS], compatibles[STEPS];
+static const uint32_t minutes[QUELBRIFT_MAX_VARIABLES]; /* none: the rows are only counted here */
 static uint64_t positives[NODES * ROOM], negatives[NODES * ROOM];
 static quelbrift_step steps[STEPS];
 
@@ -63,9 +64,9 @@ int main(int count, char **arguments)
     if (script.number != QUELBRIFT_DONE)
         return refused(script);
 
-    quelbrift_answer walked = quelbrift_walk(words, NODES * QUELBRIFT_NODE_WORDS, variables, nodes, ROOM, steps, script.first,
-                                             positives, NODES * ROOM, negatives, NODES * ROOM, counts, NODES, statuses, STEPS,
-                                             compatibles, STEPS);
+    quelbrift_answer walked = quelbrift_walk(words, NODES * QUELBRIFT_NODE_WORDS, variables, nodes, minutes, variables, ROOM, steps,
+                                             script.first, positives, NODES * ROOM, negatives, NODES * ROOM, counts, NODES, statuses,
+                                             STEPS, compatibles, STEPS);
     if (walked.number != QUELBRIFT_DONE)
         return refused(walked);
     for (size_t i = 0; i < script.first; i++)

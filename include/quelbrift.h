@@ -4,11 +4,11 @@
  * examples/list.c is a whole program.
  *
  * Calls. Every function takes any numbers and any contents of the buffers. It ends, and does its work or refuses by a number. A
- * buffer is a pointer and then its length in elements; it may always be longer than needed, but for a list of measurements and for the
- * steps of a walk: there the length is the number of entries. The caller must see to three things. No pointer is NULL, not even where
- * the length is 0. It points to at least that many elements. A buffer that is written overlaps no other. No function keeps a pointer or
- * state, and calls from several threads at once do not disturb one another. A call needs at most 512 KiB of stack. Bytes, nodes,
- * measurements and steps are counted from 0.
+ * buffer is a pointer and then its length in elements; it may always be longer than needed, but for a list of measurements, for minutes
+ * and for the steps of a walk: there the length is the number of entries. The caller must see to three things. No pointer is NULL, not
+ * even where the length is 0. It points to at least that many elements. A buffer that is written overlaps no other. No function keeps a
+ * pointer or state, and calls from several threads at once do not disturb one another. A call needs at most 512 KiB of stack. Bytes,
+ * nodes, measurements and steps are counted from 0.
  *
  * Vocabulary. A fact of the trade is a variable here, a stow an assignment, a row a term, a mark a literal, a clearance a prime
  * implicant, a blocker a prime implicant of the negation, the room a capacity, a reading a measurement. An assignment is a mask: bit i
@@ -40,7 +40,7 @@ extern "C" {
 #endif
 
 /* The version. It is raised whenever this header or an answer of the archive changes. quelbrift_version() gives the archive's. */
-#define QUELBRIFT_VERSION 5
+#define QUELBRIFT_VERSION 6
 
 /* The limits. */
 #define QUELBRIFT_MAX_VARIABLES 40   /* the variables of a table: 1 to 40 */
@@ -48,6 +48,7 @@ extern "C" {
 #define QUELBRIFT_NODE_WORDS 11      /* the words of a node */
 #define QUELBRIFT_MAX_CHILDREN 8     /* the children of a both: 2 to 8 */
 #define QUELBRIFT_MAX_CAPACITY 4096  /* the capacity (room) of a listing: 0 to 4,096 */
+#define QUELBRIFT_MAX_MINUTES 1000   /* the minutes of a variable (fact): 0 to 1,000 */
 #define QUELBRIFT_MAX_TEXT 110000    /* at most so many bytes in a circuit text */
 #define QUELBRIFT_MAX_DEPTH 16       /* and brackets at most so deep */
 #define QUELBRIFT_MAX_LINE 117       /* the bytes of the longest stow line that is accepted */
@@ -60,6 +61,7 @@ extern "C" {
  *     sink                     QUELBRIFT_MAX_TEXT, 110,000: every well-formed table's text fits; the longest has 96,511 bytes
  *     positives and negatives  QUELBRIFT_ENTRIES(QUELBRIFT_MAX_NODES, QUELBRIFT_MAX_CAPACITY), 4,194,304 each (32 MiB each)
  *     counts                   QUELBRIFT_MAX_NODES, 1,024
+ *     minutes                  QUELBRIFT_MAX_VARIABLES, 40: exactly one a variable, so a longer list is refused, and a shorter one too
  *     measurements             QUELBRIFT_MAX_VARIABLES, 40: one a variable at most, so a longer list is refused
  *     steps, statuses and compatibles  QUELBRIFT_MAX_STEPS, 256
  */
@@ -131,9 +133,11 @@ enum {
     QUELBRIFT_MEASUREMENT = 53, /* low above high; a variable out of range, with a literal in the term, or measured by an earlier
                                    entry; or an entry that is incomplete */
     /* of a loading script, with the byte where it is read, with the lowest wrong step where it is walked */
-    QUELBRIFT_STEP_SHAPE = 54,   /* wrong shape, placed as 11; an act above 2; a step beyond 256 or, where it is read, beyond the list:
-                                    its opening bracket, or step 256 */
-    QUELBRIFT_STEP_VARIABLE = 55 /* a variable out of range; the byte after the number, or the step */
+    QUELBRIFT_STEP_SHAPE = 54,    /* wrong shape, placed as 11; an act above 2; a step beyond 256 or, where it is read, beyond the list:
+                                     its opening bracket, or step 256 */
+    QUELBRIFT_STEP_VARIABLE = 55, /* a variable out of range; the byte after the number, or the step */
+    /* of the minutes; the place is 0 */
+    QUELBRIFT_MINUTES = 56 /* not exactly one entry for each variable, or an entry above 1,000 */
 };
 
 /* A text for each number, for messages. */
@@ -163,6 +167,7 @@ static inline const char *quelbrift_text(uint32_t number)
     case QUELBRIFT_MEASUREMENT: return "a reading is incomplete, its low above its high, or its fact out of range, marked or read already";
     case QUELBRIFT_STEP_SHAPE: return "the loading script has the wrong shape, or a step too many";
     case QUELBRIFT_STEP_VARIABLE: return "a fact of the loading script is out of range";
+    case QUELBRIFT_MINUTES: return "the minutes are not one entry for each fact, or an entry is above 1,000";
     default: return "no number of Quelbrift";
     }
 }
@@ -250,24 +255,30 @@ quelbrift_answer quelbrift_reduce(const uint32_t *words, size_t words_length, ui
  * The two listings: quelbrift_list lists all clearances of every node, quelbrift_list_negation all blockers. A node's blockers are the
  * clearances of its negation: each suffices for a stow to be no there, and no mark can be left out. Node i's count goes to counts[i],
  * its positive and negative masks to positives[i * capacity] and negatives[i * capacity] on. The circuit's own rows are those of the
- * last node: counts[nodes - 1] of them, from index (nodes - 1) * capacity on. The order: fewer marks first; then the smaller mask of all
- * marked variables, as a number; then the smaller positive mask. The other entries of the first nodes * capacity are 0, later entries
- * are unchanged. Each listing is a call of its own and reads nothing that another left: lend other buffers to keep both.
+ * last node: counts[nodes - 1] of them, from index (nodes - 1) * capacity on. The other entries of the first nodes * capacity are 0,
+ * later entries are unchanged. Each listing is a call of its own and reads nothing that another left: lend other buffers to keep both.
+ * The order of every node's rows: the smaller sum of the marked variables' minutes first; then fewer marks; then the smaller mask of all
+ * marked variables, as a number; then the smaller positive mask. minutes[i] are those of variable i, 0 to 1,000, whether it is marked yes
+ * or no; the minutes are only read. Which rows are listed does not depend on them. Where all are 0, as where all are the same, fewer
+ * marks come first.
  * Done: no value. No count is above the last node's.
- * Refuses: 21 to 25, then 41; all buffers are unchanged then. Then 42, exactly where the circuit has more clearances (for
- * quelbrift_list_negation: blockers) than the capacity; the first nodes * capacity entries of both row buffers and the first `nodes`
- * counts are 0 then, later ones unchanged. Start with a small capacity, and after 42 try a larger one, up to 4,096. A circuit may be
- * refused by 42 for the one listing and done for the other.
+ * Refuses: 21 to 25, then 41, then 56, where minutes_length is not the number of variables or an entry is above 1,000, so an empty list
+ * too; all buffers are unchanged then. Then 42, exactly where the circuit has more clearances (for quelbrift_list_negation: blockers)
+ * than the capacity; the first nodes * capacity entries of both row buffers and the first `nodes` counts are 0 then, later ones
+ * unchanged. Start with a small capacity, and after 42 try a larger one, up to 4,096. A circuit may be refused by 42 for the one listing
+ * and done for the other.
  * Time: the circuits measured (docs/PERFORMANCE.md) take milliseconds, and the worst tables made to be slow took seconds. The worst time
  * grows with the third power of the capacity at each pick, 64 entries at a time. A call cannot be interrupted; a smaller capacity
  * bounds it.
  */
-quelbrift_answer quelbrift_list(const uint32_t *words, size_t words_length, uint32_t variables, uint32_t nodes, uint32_t capacity,
-                                uint64_t *positives, size_t positives_length, uint64_t *negatives, size_t negatives_length,
-                                uint32_t *counts, size_t counts_length);
+quelbrift_answer quelbrift_list(const uint32_t *words, size_t words_length, uint32_t variables, uint32_t nodes,
+                                const uint32_t *minutes, size_t minutes_length, uint32_t capacity, uint64_t *positives,
+                                size_t positives_length, uint64_t *negatives, size_t negatives_length, uint32_t *counts,
+                                size_t counts_length);
 quelbrift_answer quelbrift_list_negation(const uint32_t *words, size_t words_length, uint32_t variables, uint32_t nodes,
-                                         uint32_t capacity, uint64_t *positives, size_t positives_length, uint64_t *negatives,
-                                         size_t negatives_length, uint32_t *counts, size_t counts_length);
+                                         const uint32_t *minutes, size_t minutes_length, uint32_t capacity, uint64_t *positives,
+                                         size_t positives_length, uint64_t *negatives, size_t negatives_length, uint32_t *counts,
+                                         size_t counts_length);
 
 /*
  * Finds a node's rows in a row buffer, by offset and length; the buffer is not read. It never refuses.
@@ -295,22 +306,23 @@ quelbrift_answer quelbrift_read_script(const uint8_t *text, size_t text_length, 
                                        size_t list_length);
 
 /*
- * Walks a loading script through a circuit: lists the clearances of every node, as quelbrift_list does and into the same buffers, and
- * then takes the steps one after the other. At first nothing is known. A step sets its variable, whatever an earlier step said of it,
- * or makes it unknown again. What is known is a partial assignment.
+ * Walks a loading script through a circuit: lists the clearances of every node, as quelbrift_list does by the same minutes and into the
+ * same buffers, and then takes the steps one after the other. At first nothing is known. A step sets its variable, whatever an earlier
+ * step said of it, or makes it unknown again. What is known is a partial assignment. The minutes order the rows and change nothing else.
  * Done: statuses[i] is QUELBRIFT_ALLOWED, QUELBRIFT_FORBIDDEN or QUELBRIFT_OPEN, as quelbrift_evaluate_partial says of what is known
  * after step i, and compatibles[i] is the number of the circuit's clearances (those of the last node) that contradict none of it: 0
  * exactly where the status is QUELBRIFT_FORBIDDEN. Entries at list_length and later are unchanged. first is 1 where from some step to
  * the last every status is QUELBRIFT_ALLOWED, and second is the first such step; else both are 0.
  * Refuses: 21 to 25; then, with the lowest wrong step, 54 for an act above 2, or for step 256, or 55 for a variable out of range, 54 if
- * both; then 41, for the listing's buffers or where statuses or compatibles are shorter than the list. All five buffers are unchanged
- * then. Then 42: rows and counts as quelbrift_list leaves them, statuses and compatibles unchanged.
+ * both; then 41, for the listing's buffers or where statuses or compatibles are shorter than the list; then 56, as quelbrift_list does.
+ * All five buffers are unchanged then. Then 42: rows and counts as quelbrift_list leaves them, statuses and compatibles unchanged.
  * Time: that of one listing; for each step a pass over the nodes, and one over the circuit's clearances.
  */
-quelbrift_answer quelbrift_walk(const uint32_t *words, size_t words_length, uint32_t variables, uint32_t nodes, uint32_t capacity,
-                                const quelbrift_step *list, size_t list_length, uint64_t *positives, size_t positives_length,
-                                uint64_t *negatives, size_t negatives_length, uint32_t *counts, size_t counts_length,
-                                uint32_t *statuses, size_t statuses_length, uint32_t *compatibles, size_t compatibles_length);
+quelbrift_answer quelbrift_walk(const uint32_t *words, size_t words_length, uint32_t variables, uint32_t nodes,
+                                const uint32_t *minutes, size_t minutes_length, uint32_t capacity, const quelbrift_step *list,
+                                size_t list_length, uint64_t *positives, size_t positives_length, uint64_t *negatives,
+                                size_t negatives_length, uint32_t *counts, size_t counts_length, uint32_t *statuses,
+                                size_t statuses_length, uint32_t *compatibles, size_t compatibles_length);
 
 #ifdef __cplusplus
 }

@@ -4,7 +4,21 @@ use crate::answer::Answer;
 use crate::Step;
 
 /// The two listings have one type.
-pub type Listing = unsafe extern "C" fn(*const u32, usize, u32, u32, u32, *mut u64, usize, *mut u64, usize, *mut u32, usize) -> Answer;
+pub type Listing = unsafe extern "C" fn(
+    *const u32,
+    usize,
+    u32,
+    u32,
+    *const u32,
+    usize,
+    u32,
+    *mut u64,
+    usize,
+    *mut u64,
+    usize,
+    *mut u32,
+    usize,
+) -> Answer;
 
 extern "C" {
     pub fn quelbrift_version() -> u32;
@@ -37,6 +51,8 @@ extern "C" {
         length: usize,
         variables: u32,
         nodes: u32,
+        weights: *const u32,
+        weights_length: usize,
         capacity: u32,
         positives: *mut u64,
         positives_length: usize,
@@ -50,6 +66,8 @@ extern "C" {
         length: usize,
         variables: u32,
         nodes: u32,
+        weights: *const u32,
+        weights_length: usize,
         capacity: u32,
         positives: *mut u64,
         positives_length: usize,
@@ -66,6 +84,8 @@ extern "C" {
         length: usize,
         variables: u32,
         nodes: u32,
+        weights: *const u32,
+        weights_length: usize,
         capacity: u32,
         list: *const Step,
         list_length: usize,

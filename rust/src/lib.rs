@@ -8,14 +8,15 @@ mod refusal;
 pub use refusal::{Place, Refusal};
 
 /// The version that this wrapper is written for; `version` gives the archive's.
-pub const VERSION: u32 = 5;
+pub const VERSION: u32 = 6;
 
-/// The limits of the header.
+/// The limits of the header, where weights are called minutes.
 pub const MAX_VARIABLES: u32 = 40;
 pub const MAX_NODES: u32 = 1024;
 pub const NODE_WORDS: usize = 11;
 pub const MAX_CHILDREN: u32 = 8;
 pub const MAX_CAPACITY: u32 = 4096;
+pub const MAX_WEIGHT: u32 = 1000;
 pub const MAX_TEXT: usize = 110_000;
 pub const MAX_DEPTH: u32 = 16;
 pub const MAX_LINE: usize = 117;
@@ -187,6 +188,7 @@ pub fn reduce(table: Table, assignment: u64) -> Result<Term, Refusal> {
 fn listed(
     listing: exported::Listing,
     table: Table,
+    weights: &[u32],
     capacity: u32,
     positives: &mut [u64],
     negatives: &mut [u64],
@@ -199,6 +201,8 @@ fn listed(
             words.len(),
             variables,
             nodes,
+            weights.as_ptr(),
+            weights.len(),
             capacity,
             positives.as_mut_ptr(),
             positives.len(),
@@ -211,20 +215,28 @@ fn listed(
     .nothing()
 }
 
-/// Lists the clearances of every node.
-pub fn list(table: Table, capacity: u32, positives: &mut [u64], negatives: &mut [u64], counts: &mut [u32]) -> Result<(), Refusal> {
-    listed(exported::quelbrift_list, table, capacity, positives, negatives, counts)
-}
-
-/// Lists the blockers of every node: the clearances of its negation.
-pub fn list_negation(
+/// Lists the clearances of every node, by the weights (the minutes of the facts, one each).
+pub fn list(
     table: Table,
+    weights: &[u32],
     capacity: u32,
     positives: &mut [u64],
     negatives: &mut [u64],
     counts: &mut [u32],
 ) -> Result<(), Refusal> {
-    listed(exported::quelbrift_list_negation, table, capacity, positives, negatives, counts)
+    listed(exported::quelbrift_list, table, weights, capacity, positives, negatives, counts)
+}
+
+/// Lists the blockers of every node, by the weights: the clearances of its negation.
+pub fn list_negation(
+    table: Table,
+    weights: &[u32],
+    capacity: u32,
+    positives: &mut [u64],
+    negatives: &mut [u64],
+    counts: &mut [u32],
+) -> Result<(), Refusal> {
+    listed(exported::quelbrift_list_negation, table, weights, capacity, positives, negatives, counts)
 }
 
 /// The part of a row buffer that holds the first `count` entries of a node.
@@ -245,8 +257,8 @@ pub fn read_script(text: &[u8], variables: u32, list: &mut [Step]) -> Result<usi
     Ok(answer.value()? as usize)
 }
 
-/// Walks a loading script: the first step from which on every verdict is allowed, or none.
-pub fn walk(table: Table, capacity: u32, steps: &[Step], buffers: WalkBuffers) -> Result<Option<usize>, Refusal> {
+/// Walks a loading script: the first step from which on every verdict is allowed, or none. The weights order the listed clearances.
+pub fn walk(table: Table, weights: &[u32], capacity: u32, steps: &[Step], buffers: WalkBuffers) -> Result<Option<usize>, Refusal> {
     let Table { words, variables, nodes } = table;
     let WalkBuffers { positives, negatives, counts, statuses, compatibles } = buffers;
     let answer = unsafe {
@@ -255,6 +267,8 @@ pub fn walk(table: Table, capacity: u32, steps: &[Step], buffers: WalkBuffers) -
             words.len(),
             variables,
             nodes,
+            weights.as_ptr(),
+            weights.len(),
             capacity,
             steps.as_ptr(),
             steps.len(),

@@ -61,6 +61,7 @@ impl Refusal {
             53 => "a reading is incomplete, its low above its high, or its fact out of range, marked or read already",
             54 => "the loading script has the wrong shape, or a step too many",
             55 => "a fact of the loading script is out of range",
+            56 => "the minutes are not one entry for each fact, or an entry is above 1,000",
             _ => "no number of Quelbrift",
         }
     }

@@ -1,5 +1,5 @@
 //! The wrapper says what `include/quelbrift.h` says: numbers with their texts, limits, verdicts, acts, version. A refusal is shown in
-//! full, the longest line read, a half-known stow judged, and a loading script read and walked.
+//! full, the longest line read, a half-known stow judged, rows listed by weights, and a loading script read and walked.
 
 use quelbrift::{Completions, Refusal, Step, Table, Term, Verdict, WalkBuffers};
 use std::collections::HashMap;
@@ -27,7 +27,7 @@ fn limit(name: &str) -> u64 {
 #[test]
 fn texts_are_those_of_the_header() {
     let (numbers, texts) = (numbers(), texts());
-    assert_eq!(numbers.len(), 23);
+    assert_eq!(numbers.len(), 24);
     assert_eq!(texts.len(), numbers.len());
     for (name, number) in numbers {
         if number != 0 {
@@ -43,6 +43,7 @@ fn limits_are_those_of_the_header() {
     assert_eq!(quelbrift::NODE_WORDS as u64, limit("NODE_WORDS"));
     assert_eq!(u64::from(quelbrift::MAX_CHILDREN), limit("MAX_CHILDREN"));
     assert_eq!(u64::from(quelbrift::MAX_CAPACITY), limit("MAX_CAPACITY"));
+    assert_eq!(u64::from(quelbrift::MAX_WEIGHT), limit("MAX_MINUTES"));
     assert_eq!(quelbrift::MAX_TEXT as u64, limit("MAX_TEXT"));
     assert_eq!(u64::from(quelbrift::MAX_DEPTH), limit("MAX_DEPTH"));
     assert_eq!(quelbrift::MAX_LINE as u64, limit("MAX_LINE"));
@@ -71,7 +72,7 @@ fn acts_are_those_of_the_header() {
 
 #[test]
 fn versions_agree() {
-    assert_eq!(quelbrift::VERSION, 5);
+    assert_eq!(quelbrift::VERSION, 6);
     assert_eq!(u64::from(quelbrift::VERSION), limit("VERSION"));
     assert_eq!(quelbrift::version(), quelbrift::VERSION);
 }
@@ -89,6 +90,7 @@ fn a_refusal_is_shown_with_its_place() {
     assert_eq!(shown(54, 9), "refused 54 at byte or step 9: the loading script has the wrong shape, or a step too many");
     assert_eq!(shown(55, 0), "refused 55 at byte or step 0: a fact of the loading script is out of range");
     assert_eq!(shown(42, 0), "refused 42: the list has more rows than the room");
+    assert_eq!(shown(56, 0), "refused 56: the minutes are not one entry for each fact, or an entry is above 1,000");
 }
 
 /// A refusal is an error like any other.
@@ -127,6 +129,58 @@ fn a_half_known_stow_is_judged() {
     assert_eq!(judged(&[0, 0], &[0]), Err(Refusal { number: 53, place: 1 }));
 }
 
+/// The words of some nodes, of which those given come first and the others are 0.
+fn words(nodes: &[&[u32]]) -> Vec<u32> {
+    let word = |node: &[u32], place: usize| node.get(place).copied().unwrap_or(0);
+    nodes.iter().flat_map(|node| (0..quelbrift::NODE_WORDS).map(move |place| word(node, place))).collect()
+}
+
+type Listing = fn(Table, &[u32], u32, &mut [u64], &mut [u64], &mut [u32]) -> Result<(), Refusal>;
+
+/// The rows of the last of five nodes as pairs of masks, or the refusal; a refusal but 42 leaves the buffers as they were.
+fn listed(list: Listing, table: Table, weights: &[u32], capacity: u32) -> Result<Vec<(u64, u64)>, Refusal> {
+    let (mut positives, mut negatives, mut counts) = ([7; 10], [7; 10], [7; 5]);
+    let answer = list(table, weights, capacity, &mut positives, &mut negatives, &mut counts);
+    if answer.is_err_and(|refusal| refusal.number != 42) {
+        assert_eq!((positives, negatives, counts), ([7; 10], [7; 10], [7; 5]));
+    }
+    let last = |buffer| quelbrift::view(buffer, capacity, 4, counts[4]);
+    answer.map(|()| last(&positives).iter().copied().zip(last(&negatives).iter().copied()).collect())
+}
+
+/// `(both (pick 0 (yes 1) (true)) (no 2))`: clearances +0 -2 and +1 -2, blockers +2 and -0 -1.
+#[test]
+fn rows_are_listed_by_weights() {
+    let words = words(&[&[2, 1], &[1], &[4, 0, 2, 0, 1], &[3, 2], &[5, 0, 2, 2, 3]]);
+    let table = Table { words: &words, variables: 3, nodes: 5 };
+    let (clearances, blockers) = ([(1, 4), (2, 4)], [(4, 0), (0, 3)]);
+    for (weights, turned) in [
+        ([0, 0, 0], [false, false]),
+        ([1000, 1000, 1000], [false, false]),
+        ([3, 1, 9], [true, true]),
+        ([1, 0, 0], [true, false]),
+        ([0, 0, 1], [false, true]),
+    ] {
+        for (list, mut rows, turned) in
+            [(quelbrift::list as Listing, clearances, turned[0]), (quelbrift::list_negation, blockers, turned[1])]
+        {
+            if turned {
+                rows.reverse();
+            }
+            assert_eq!(listed(list, table, &weights, 2), Ok(rows.to_vec()), "{weights:?}");
+        }
+    }
+    let refused = |number| Err(Refusal { number, place: 0 });
+    for list in [quelbrift::list as Listing, quelbrift::list_negation] {
+        for wrong in [&[0, 0, 1001][..], &[1001, 0, 0], &[0, 0], &[0, 0, 0, 0], &[]] {
+            assert_eq!(listed(list, table, wrong, 2), refused(56), "{wrong:?}");
+            assert_eq!(listed(list, table, wrong, 1), refused(56), "{wrong:?}");
+            assert_eq!(listed(list, table, wrong, 3), refused(41), "{wrong:?}");
+        }
+        assert_eq!(listed(list, table, &[0, 0, 0], 1), refused(42));
+    }
+}
+
 const UNUSED: Step = Step { variable: 77, act: 77 };
 
 #[test]
@@ -147,7 +201,7 @@ fn a_script_is_read() {
 #[test]
 fn a_script_is_walked() {
     let table = Table { words: &[2, 0, 0, 0, 0, 0, 0, 0, 0, 0, 0], variables: 2, nodes: 1 };
-    let walked = |capacity: u32, acts: &[(u32, u32)]| {
+    let walked_by = |weights: &[u32], capacity: u32, acts: &[(u32, u32)]| {
         let steps: Vec<Step> = acts.iter().map(|&(variable, act)| Step { variable, act }).collect();
         let (mut positives, mut negatives, mut counts, mut statuses, mut compatibles) = ([7], [7], [7], [7; 6], [7; 6]);
         let buffers = WalkBuffers {
@@ -157,10 +211,12 @@ fn a_script_is_walked() {
             statuses: &mut statuses,
             compatibles: &mut compatibles,
         };
-        (quelbrift::walk(table, capacity, &steps, buffers), statuses, compatibles)
+        (quelbrift::walk(table, weights, capacity, &steps, buffers), statuses, compatibles)
     };
+    let walked = |capacity: u32, acts: &[(u32, u32)]| walked_by(&[0, 0], capacity, acts);
     let script = [(0, 1), (0, 0), (0, 2), (0, 1), (1, 0)];
     assert_eq!(walked(1, &script), (Ok(Some(3)), [2, 0, 1, 2, 2, 7], [1, 0, 1, 1, 1, 7]));
+    assert_eq!(walked_by(&[1000, 5], 1, &script), walked(1, &script));
     assert_eq!(walked(1, &script[..3]), (Ok(None), [2, 0, 1, 7, 7, 7], [1, 0, 1, 7, 7, 7]));
     assert_eq!(walked(1, &[]), (Ok(None), [7; 6], [7; 6]));
     let refused = |number, place| (Err(Refusal { number, place }), [7; 6], [7; 6]);
@@ -168,4 +224,10 @@ fn a_script_is_walked() {
     assert_eq!(walked(1, &[(0, 1), (2, 2)]), refused(55, 1));
     assert_eq!(walked(1, &[(0, 1); 7]), refused(41, 0));
     assert_eq!(walked(0, &script), refused(42, 0));
+    for wrong in [&[0, 1001][..], &[0], &[0, 0, 0]] {
+        assert_eq!(walked_by(wrong, 1, &[(0, 1), (2, 2)]), refused(55, 1));
+        assert_eq!(walked_by(wrong, 1, &[(0, 1); 7]), refused(41, 0));
+        assert_eq!(walked_by(wrong, 0, &script), refused(56, 0));
+        assert_eq!(walked_by(wrong, 1, &script), refused(56, 0));
+    }
 }

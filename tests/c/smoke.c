@@ -505,9 +505,18 @@ static void check_reduce(void)
 }
 
 /* Either listing, of clearances or of blockers. */
-typedef quelbrift_answer listing(const uint32_t *words, size_t words_length, uint32_t variables, uint32_t nodes, uint32_t capacity,
-                                 uint64_t *positives, size_t positives_length, uint64_t *negatives, size_t negatives_length,
-                                 uint32_t *counts, size_t counts_length);
+typedef quelbrift_answer listing(const uint32_t *words, size_t words_length, uint32_t variables, uint32_t nodes,
+                                 const uint32_t *minutes, size_t minutes_length, uint32_t capacity, uint64_t *positives,
+                                 size_t positives_length, uint64_t *negatives, size_t negatives_length, uint32_t *counts,
+                                 size_t counts_length);
+
+static listing *const listings[] = {quelbrift_list, quelbrift_list_negation};
+
+/* Minutes as they are lent: how many, and the list, longer than any call here needs. */
+typedef struct {
+    size_t length;
+    uint32_t entries[48];
+} minutes;
 
 /* The buffers of a listing, longer than any call here needs. */
 typedef struct {
@@ -516,11 +525,31 @@ typedef struct {
     uint32_t counts[12];
 } buffers;
 
+static quelbrift_answer list_by(listing *lists, const minutes *by, buffers *lent, const table *circuit, uint32_t capacity, size_t rows,
+                                size_t negatives, size_t counts)
+{
+    memset(lent, 0xa5, sizeof *lent);
+    return lists(TABLE(circuit), by->entries, by->length, capacity, lent->positives, rows, lent->negatives, negatives, lent->counts,
+                 counts);
+}
+
+/* With buffers just enough. */
+static quelbrift_answer list_fitting(listing *lists, const minutes *by, buffers *lent, const table *circuit, uint32_t capacity)
+{
+    const size_t rows = (size_t)circuit->nodes * capacity;
+    return list_by(lists, by, lent, circuit, capacity, rows, rows, circuit->nodes);
+}
+
+static minutes no_minutes(const table *circuit)
+{
+    return (minutes){circuit->variables, {0}};
+}
+
 static quelbrift_answer list(listing *lists, buffers *lent, const table *circuit, uint32_t capacity, size_t rows, size_t negatives,
                              size_t counts)
 {
-    memset(lent, 0xa5, sizeof *lent);
-    return lists(TABLE(circuit), capacity, lent->positives, rows, lent->negatives, negatives, lent->counts, counts);
+    const minutes none = no_minutes(circuit);
+    return list_by(lists, &none, lent, circuit, capacity, rows, negatives, counts);
 }
 
 /* The first entries are 0, the later ones unchanged. */
@@ -532,14 +561,14 @@ static int zeroed(const buffers *lent, size_t rows, size_t counts)
 }
 
 /* A listing that is done, with buffers just enough and with longer ones. */
-static void check_listed(listing *lists, const table *circuit, uint32_t capacity, const uint64_t *positives, const uint64_t *negatives,
-                         const uint32_t *counts)
+static void check_listed_by(listing *lists, const minutes *by, const table *circuit, uint32_t capacity, const uint64_t *positives,
+                            const uint64_t *negatives, const uint32_t *counts)
 {
     const size_t rows = (size_t)circuit->nodes * capacity, nodes = circuit->nodes;
     const size_t lengths[][3] = {{rows, rows, nodes}, {rows + 3, rows + 1, nodes + 1}};
     buffers lent;
     for (call = 0; call < LENGTH(lengths); call++) {
-        EXPECT_DONE(list(lists, &lent, circuit, capacity, lengths[call][0], lengths[call][1], lengths[call][2]), 0, 0);
+        EXPECT_DONE(list_by(lists, by, &lent, circuit, capacity, lengths[call][0], lengths[call][1], lengths[call][2]), 0, 0);
         EXPECT(memcmp(lent.positives, positives, rows * 8) == 0);
         EXPECT(memcmp(lent.negatives, negatives, rows * 8) == 0);
         EXPECT(memcmp(lent.counts, counts, nodes * 4) == 0);
@@ -547,6 +576,13 @@ static void check_listed(listing *lists, const table *circuit, uint32_t capacity
         EXPECT(all_bytes(lent.negatives + rows, sizeof lent.negatives - rows * 8, 0xa5));
         EXPECT(all_bytes(lent.counts + nodes, sizeof lent.counts - nodes * 4, 0xa5));
     }
+}
+
+static void check_listed(listing *lists, const table *circuit, uint32_t capacity, const uint64_t *positives, const uint64_t *negatives,
+                         const uint32_t *counts)
+{
+    const minutes none = no_minutes(circuit);
+    check_listed_by(lists, &none, circuit, capacity, positives, negatives, counts);
 }
 
 /* The clearances of every node of `worked`, at capacity 4. */
@@ -641,6 +677,363 @@ static void check_eight_listed(void)
         EXPECT_REFUSED(list(quelbrift_list_negation, &lent, &eight, capacity, 88, 88, 11), QUELBRIFT_CAPACITY, 0);
         EXPECT(zeroed(&lent, 11 * capacity, 11));
     }
+}
+
+/* (pick 1 (pick 0 (pick 3 (true) (yes 2)) (no 2)) (both (no 2) (no 3))), and the rows of its nodes where all minutes are 0, each its
+   positive and its negative mask. Clearances: of node 2 +2, -3; of node 4 +0 -2, -0 +2, -0 -3, -2 -3; of the whole -2 -3, +0 -1 -2,
+   -0 -1 +2, -0 -1 -3. Blockers: of node 4 +0 +2, -0 -2 +3; of node 7 +2, +3; of the whole +0 +2, +1 +2, +1 +3, -0 -2 +3. */
+static const table mixed = {
+    4, 9, 99, {{1}, {2, 2}, {4, 3, 2, 0, 1}, {3, 2}, {4, 0, 2, 2, 3}, {3, 2}, {3, 3}, {5, 0, 2, 5, 6}, {4, 1, 2, 4, 7}}, 0, 0};
+static const uint64_t mixed_rows[2][9][4][2] = {
+    {{{0, 0}}, {{4, 0}}, {{4, 0}, {0, 8}}, {{0, 4}}, {{1, 4}, {4, 1}, {0, 9}, {0, 12}}, {{0, 4}}, {{0, 8}}, {{0, 12}},
+     {{0, 12}, {1, 6}, {4, 3}, {0, 11}}},
+    {{{0, 0}}, {{0, 4}}, {{8, 4}}, {{4, 0}}, {{5, 0}, {8, 5}}, {{4, 0}}, {{8, 0}}, {{4, 0}, {8, 0}},
+     {{5, 0}, {6, 0}, {10, 0}, {8, 5}}}};
+static const uint32_t mixed_counts[2][9] = {{1, 1, 2, 1, 4, 1, 1, 1, 4}, {0, 1, 1, 1, 2, 1, 1, 2, 4}};
+
+/* The rows of `mixed` at capacity 4, where those of some nodes stand in another order: for each the places where all minutes are 0. */
+static void check_mixed(size_t which, const minutes *by, const char *const orders[9])
+{
+    uint64_t positives[36], negatives[36];
+    for (size_t node = 0; node < 9; node++) {
+        for (size_t row = 0; row < 4; row++) {
+            const size_t place = orders[node] != NULL && row < strlen(orders[node]) ? (size_t)(orders[node][row] - '0') : row;
+            positives[4 * node + row] = mixed_rows[which][node][place][0];
+            negatives[4 * node + row] = mixed_rows[which][node][place][1];
+        }
+    }
+    check_listed_by(listings[which], by, &mixed, 4, positives, negatives, mixed_counts[which]);
+}
+
+/* Fewer minutes before fewer marks, whether a variable is marked yes or no; of as many minutes fewer marks, then the smaller mask of all
+   marked variables, then the smaller positive mask. Where all minutes are the same, the order is that of none. */
+static void check_minutes(void)
+{
+    static const struct {
+        uint32_t entries[4];
+        const char *clearances[9];
+        const char *blockers[9];
+    } calls[] = {
+        {{0, 0, 0, 0}, {NULL}, {NULL}},
+        {{1000, 1000, 1000, 1000}, {NULL}, {NULL}},
+        {{1, 1, 1, 1}, {NULL}, {NULL}},
+        {{0, 0, 0, 1}, {[8] = "1203"}, {NULL}},
+        {{0, 0, 1, 0}, {[2] = "10", [4] = "2013", [8] = "3012"}, {[7] = "10", [8] = "2013"}},
+        {{0, 0, 500, 500}, {[8] = "1230"}, {NULL}},
+        {{0, 5, 0, 0}, {NULL}, {[8] = "0312"}},
+        {{7, 0, 0, 0}, {[4] = "3012"}, {[8] = "1203"}},
+        {{1000, 0, 0, 1}, {[4] = "3012"}, {[8] = "1203"}},
+        {{0, 0, 1000, 1}, {[2] = "10", [4] = "2013", [8] = "3120"}, {[7] = "10", [8] = "2013"}},
+        {{2, 3, 4, 6}, {[8] = "1203"}, {NULL}},
+        {{1, 1, 2, 1}, {[2] = "10", [4] = "2013", [8] = "0312"}, {[7] = "10", [8] = "2013"}},
+        {{999, 0, 1000, 0}, {[2] = "10", [4] = "2301", [8] = "3012"}, {[7] = "10", [8] = "2103"}},
+    };
+    for (size_t i = 0; i < LENGTH(calls); i++) {
+        minutes by = {4, {0}};
+        memcpy(by.entries, calls[i].entries, sizeof calls[i].entries);
+        check_mixed(0, &by, calls[i].clearances);
+        check_mixed(1, &by, calls[i].blockers);
+    }
+}
+
+/* The conjunction of eight: the clearance with +2 comes first, and among the blockers -1 -2 after those of one mark and one minute. */
+static void check_minutes_of_eight(void)
+{
+    static const minutes by = {9, {9, 1, 0, 3, 3, 2, 2, 1, 1}};
+    static const uint64_t positives[22] = {1, 0, 4, 0, 0, 0, 4, 2, 0, 0, 0, 0, 0, 0, 0, 0, 0, 0, 0, 0, 5, 3};
+    static const uint64_t negatives[22] = {0, 0, 0, 0, 0, 0, 0, 0, 8, 0, 16, 0, 32, 0, 64, 0, 128, 0, 256, 0, 0x1f8, 0x1f8};
+    static const uint32_t counts[11] = {1, 1, 1, 2, 1, 1, 1, 1, 1, 1, 2};
+    static const uint64_t blocker_positives[88] = {
+        [32] = 8, [40] = 16, [48] = 32, [56] = 64, [64] = 128, [72] = 256,
+        [80] = 128, [81] = 256, [83] = 32, [84] = 64, [85] = 8, [86] = 16};
+    static const uint64_t blocker_negatives[88] = {[0] = 1, [8] = 4, [24] = 6, [82] = 6, [87] = 1};
+    static const uint32_t blocker_counts[11] = {1, 1, 0, 1, 1, 1, 1, 1, 1, 1, 8};
+    check_listed_by(quelbrift_list, &by, &eight, 2, positives, negatives, counts);
+    check_listed_by(quelbrift_list_negation, &by, &eight, 8, blocker_positives, blocker_negatives, blocker_counts);
+}
+
+/* The sum of the minutes of some variables. */
+static uint32_t sum_of(const minutes *by, uint64_t variables)
+{
+    uint32_t sum = 0;
+    for (size_t variable = 0; variable < by->length; variable++) {
+        sum += variables >> variable & 1 ? by->entries[variable] : 0;
+    }
+    return sum;
+}
+
+static int number_of(uint64_t variables)
+{
+    return variables == 0 ? 0 : number_of(variables & (variables - 1)) + 1;
+}
+
+/* Whether one row comes before another. */
+static int precedes(const minutes *by, uint64_t positive, uint64_t negative, uint64_t other_positive, uint64_t other_negative)
+{
+    const uint64_t marks = positive | negative, others = other_positive | other_negative;
+    if (sum_of(by, marks) != sum_of(by, others)) {
+        return sum_of(by, marks) < sum_of(by, others);
+    }
+    if (number_of(marks) != number_of(others)) {
+        return number_of(marks) < number_of(others);
+    }
+    return marks != others ? marks < others : positive < other_positive;
+}
+
+/* Whether each row of a node is one of its rows in other buffers, which hold as many, and comes before the next. */
+static int is_reordered(const buffers *lent, const buffers *other, const minutes *by, size_t start, uint32_t count)
+{
+    for (size_t row = start; row < start + count; row++) {
+        size_t same = start;
+        while (same < start + count && (lent->positives[row] != other->positives[same] || lent->negatives[row] != other->negatives[same])) {
+            same++;
+        }
+        const int last = row + 1 == start + count;
+        if (same == start + count
+            || (!last && !precedes(by, lent->positives[row], lent->negatives[row], lent->positives[row + 1], lent->negatives[row + 1]))) {
+            return 0;
+        }
+    }
+    return 1;
+}
+
+/* Both listings of every node by some minutes: the rows that are listed without minutes, in order. */
+static void check_reordered(const table *circuit, uint32_t capacity, const minutes *by)
+{
+    const minutes none = no_minutes(circuit);
+    const size_t rows = (size_t)circuit->nodes * capacity;
+    buffers lent, other;
+    for (size_t which = 0; which < LENGTH(listings); which++) {
+        EXPECT_DONE(list_fitting(listings[which], &none, &other, circuit, capacity), 0, 0);
+        EXPECT_DONE(list_fitting(listings[which], by, &lent, circuit, capacity), 0, 0);
+        EXPECT(memcmp(lent.counts, other.counts, sizeof lent.counts) == 0);
+        for (size_t node = 0; node < circuit->nodes; node++) {
+            const size_t start = node * capacity, count = lent.counts[node];
+            EXPECT(is_reordered(&lent, &other, by, start, lent.counts[node]));
+            EXPECT(all_bytes(lent.positives + start + count, (capacity - count) * 8, 0));
+            EXPECT(all_bytes(lent.negatives + start + count, (capacity - count) * 8, 0));
+        }
+        EXPECT(all_bytes(lent.positives + rows, sizeof lent.positives - rows * 8, 0xa5));
+        EXPECT(all_bytes(lent.negatives + rows, sizeof lent.negatives - rows * 8, 0xa5));
+    }
+}
+
+/* All minutes of 0 to 2 for few variables; for more some up to the most. */
+static void check_many_minutes(void)
+{
+    uint32_t state = 1;
+    for (call = 0; call < 81; call++) {
+        minutes by = {4, {(uint32_t)call % 3, (uint32_t)call / 3 % 3, (uint32_t)call / 9 % 3, (uint32_t)call / 27}};
+        check_reordered(&mixed, 4, &by);
+        by.length = 3;
+        if (call < 27) {
+            check_reordered(&worked, 4, &by);
+        }
+        by.length = 9;
+        for (size_t variable = 0; variable < 9; variable++) {
+            state = state * 1664525 + 1013904223;
+            by.entries[variable] = (state >> 16) % (call % 2 == 0 ? 4 : 1001);
+        }
+        check_reordered(&eight, 8, &by);
+    }
+}
+
+/* Minutes that are wrong for three variables: too few, too many, and, at each place, too large. */
+static const minutes wrong_minutes[] = {
+    {0, {0}}, {1, {0}}, {2, {0}}, {4, {0}}, {5, {0}}, {40, {0}}, {41, {0}}, {48, {0}},
+    {3, {1001, 0, 0}}, {3, {0, 1001, 0}}, {3, {0, 0, 1001}}, {3, {1001, 1001, 1001}}, {3, {1000, 1000, 1001}},
+    {3, {65536, 0, 0}}, {3, {0, 65537, 0}}, {3, {0, 0, (uint32_t)1 << 31}}, {3, {UINT32_MAX, 0, 0}}, {3, {0, 0, UINT32_MAX}},
+    {2, {1001, 0}}, {4, {0, 0, 0, 1001}}, {4, {1000, 1000, 1000, 1000}},
+};
+
+/* 56 comes after the table's refusals and 41, and before 42; it leaves every buffer as it was. */
+static void check_minutes_refusals_of(listing *lists)
+{
+    static const size_t short_lengths[][4] = {{4, 19, 20, 5}, {4, 20, 19, 5}, {4, 20, 20, 4}, {4, 0, 0, 0}, {4097, 96, 96, 12}};
+    buffers lent;
+    for (size_t i = 0; i < LENGTH(wrong_minutes); i++) {
+        const minutes *wrong = &wrong_minutes[i];
+        call = i;
+        for (uint32_t capacity = 0; capacity <= 5; capacity++) {
+            EXPECT_REFUSED(list_fitting(lists, wrong, &lent, &worked, capacity), QUELBRIFT_MINUTES, 0);
+            EXPECT(all_bytes(&lent, sizeof lent, 0xa5));
+        }
+        EXPECT_REFUSED(list_by(lists, wrong, &lent, &worked, 4, 96, 96, 12), QUELBRIFT_MINUTES, 0);
+        EXPECT(all_bytes(&lent, sizeof lent, 0xa5));
+        for (size_t j = 0; j < LENGTH(short_lengths); j++) {
+            const size_t *row = short_lengths[j];
+            EXPECT_REFUSED(list_by(lists, wrong, &lent, &worked, (uint32_t)row[0], row[1], row[2], row[3]), QUELBRIFT_BUFFERS, 0);
+            EXPECT(all_bytes(&lent, sizeof lent, 0xa5));
+        }
+    }
+    FOR_EACH_REFUSED(row) {
+        static const minutes wrong = {47, {[0] = 1001, [46] = UINT32_MAX}};
+        EXPECT_REFUSED(list_by(lists, &wrong, &lent, row, 4, 96, 96, 12), row->number, row->place);
+        EXPECT_REFUSED(list_by(lists, &wrong, &lent, row, 4097, 0, 0, 0), row->number, row->place);
+        EXPECT(all_bytes(&lent, sizeof lent, 0xa5));
+    }
+}
+
+/* The most minutes are taken, and what stands after the list is not read; 42 comes as it does without minutes. */
+static void check_minutes_taken_by(listing *lists, uint32_t needed)
+{
+    static const minutes right[] = {
+        {3, {0, 0, 0}}, {3, {1000, 0, 0}}, {3, {0, 1000, 0}}, {3, {0, 0, 1000}}, {3, {1000, 1000, 1000}}, {3, {1, 2, 3, 1001, 1001}}};
+    buffers lent;
+    for (call = 0; call < LENGTH(right); call++) {
+        EXPECT_DONE(list_fitting(lists, &right[call], &lent, &worked, needed), 0, 0);
+        EXPECT(lent.counts[4] == needed);
+        EXPECT_REFUSED(list_fitting(lists, &right[call], &lent, &worked, needed - 1), QUELBRIFT_CAPACITY, 0);
+        EXPECT(zeroed(&lent, 5 * ((size_t)needed - 1), 5));
+    }
+}
+
+static void check_minutes_refusals(void)
+{
+    check_minutes_refusals_of(quelbrift_list);
+    check_minutes_refusals_of(quelbrift_list_negation);
+    check_minutes_taken_by(quelbrift_list, 4);
+    check_minutes_taken_by(quelbrift_list_negation, 2);
+}
+
+/* The limit holds for each of the most variables, whether the circuit names it or not. */
+static void check_minutes_of_every_variable(void)
+{
+    table wide = worked;
+    buffers lent;
+    wide.variables = 40;
+    for (size_t which = 0; which < LENGTH(listings); which++) {
+        for (call = 0; call < 40; call++) {
+            minutes by = {40, {0}};
+            by.entries[call] = 1000;
+            EXPECT_DONE(list_fitting(listings[which], &by, &lent, &wide, 4), 0, 0);
+            by.entries[call] = 1001;
+            EXPECT_REFUSED(list_fitting(listings[which], &by, &lent, &wide, 4), QUELBRIFT_MINUTES, 0);
+            EXPECT(all_bytes(&lent, sizeof lent, 0xa5));
+        }
+        for (call = 0; call <= 48; call++) {
+            const minutes by = {call, {0}};
+            EXPECT_DONE(list_fitting(listings[which], &(minutes){40, {0}}, &lent, &wide, 4), 0, 0);
+            EXPECT(list_fitting(listings[which], &by, &lent, &wide, 4).number == (call == 40 ? QUELBRIFT_DONE : QUELBRIFT_MINUTES));
+        }
+    }
+}
+
+/* The circuit, the minutes and what is not lent of them are only read. */
+static void check_minutes_unchanged(void)
+{
+    static const minutes lists[] = {{4, {3, 0, 1000, 7, 9}}, {4, {0, 0, 0, 1001, 9}}, {3, {3, 0, 1000, 7, 9}}, {0, {7, 9}}};
+    buffers lent;
+    for (call = 0; call < 2 * LENGTH(lists); call++) {
+        table circuit = mixed;
+        minutes by = lists[call / 2];
+        list_fitting(listings[call % 2], &by, &lent, &circuit, 4);
+        EXPECT(memcmp(&by, &lists[call / 2], sizeof by) == 0);
+        EXPECT(memcmp(&circuit, &mixed, sizeof circuit) == 0);
+    }
+}
+
+/* A conjunction of the most variables: a literal of each of 0 to 37, the even ones positive, and 38 or not 39. There are two clearances
+   of 39 marks; the blockers are 38 of one mark and -38 +39. */
+#define WIDE_NODES 47
+#define WIDE_ROWS 39
+static const uint64_t wide_even = 0x1555555555, wide_odd = 0x2aaaaaaaaa, wide_38 = (uint64_t)1 << 38, wide_39 = (uint64_t)1 << 39;
+static uint32_t wide_words[WIDE_NODES][11];
+
+static void make_wide(void)
+{
+    for (uint32_t i = 0; i < 38; i++) {
+        memcpy(wide_words[i], (uint32_t[]){2 + i % 2, i}, 2 * sizeof(uint32_t));
+        wide_words[41 + i / 8][2] = i % 8 + 1;
+        wide_words[41 + i / 8][3 + i % 8] = i;
+    }
+    memcpy(wide_words[38], (uint32_t[]){3, 39}, 2 * sizeof(uint32_t));
+    wide_words[39][0] = 1;
+    memcpy(wide_words[40], (uint32_t[]){4, 38, 2, 38, 39}, 5 * sizeof(uint32_t));
+    wide_words[45][2] = 7;
+    wide_words[45][9] = 40;
+    memcpy(wide_words[46], (uint32_t[]){5, 0, 5, 41, 42, 43, 44, 45}, 8 * sizeof(uint32_t));
+    for (uint32_t i = 41; i < 46; i++) {
+        wide_words[i][0] = 5;
+    }
+}
+
+static uint64_t wide_positives[WIDE_NODES * WIDE_ROWS], wide_negatives[WIDE_NODES * WIDE_ROWS];
+
+/* Lists the wide circuit; where the rows of its last node start. */
+static size_t list_wide(listing *lists, const minutes *by, uint32_t capacity, uint32_t expected)
+{
+    static uint32_t counts[WIDE_NODES];
+    EXPECT_DONE(lists(wide_words[0], WIDE_NODES * 11, 40, WIDE_NODES, by->entries, by->length, capacity, wide_positives,
+                      LENGTH(wide_positives), wide_negatives, LENGTH(wide_negatives), counts, WIDE_NODES),
+                0, 0);
+    EXPECT(counts[WIDE_NODES - 1] == expected);
+    return (size_t)(WIDE_NODES - 1) * capacity;
+}
+
+/* The clearance with +38 first, or that with -39. */
+static void check_wide_clearances(const minutes *by, int with_38_first)
+{
+    const size_t start = list_wide(quelbrift_list, by, 2, 2), with_38 = with_38_first ? start : start + 1, other = 2 * start + 1 - with_38;
+    EXPECT(wide_positives[with_38] == (wide_even | wide_38) && wide_negatives[with_38] == wide_odd);
+    EXPECT(wide_positives[other] == wide_even && wide_negatives[other] == (wide_odd | wide_39));
+}
+
+/* The blockers of one mark by their variables, rising or falling; and where -38 +39 stands among them. */
+static void check_wide_blockers(const minutes *by, int rising, size_t pair)
+{
+    const size_t start = list_wide(quelbrift_list_negation, by, WIDE_ROWS, WIDE_ROWS);
+    EXPECT(wide_positives[start + pair] == wide_39 && wide_negatives[start + pair] == wide_38);
+    for (call = 0; call < 38; call++) {
+        const size_t variable = rising ? call : 37 - call, row = start + call + (call >= pair);
+        const uint64_t bit = (uint64_t)1 << variable;
+        EXPECT(wide_positives[row] == (variable % 2 == 1 ? bit : 0) && wide_negatives[row] == (variable % 2 == 0 ? bit : 0));
+    }
+}
+
+/* The clearance with +38 has so many minutes, that with -39 one less. */
+static void check_wide_sum(uint32_t sum)
+{
+    minutes by = {40, {0}};
+    for (size_t i = 0; i < 38; i++) {
+        by.entries[i] = (sum - 1) / 38;
+    }
+    by.entries[39] = (sum - 1) % 38;
+    by.entries[38] = by.entries[39] + 1;
+    check_wide_clearances(&by, 0);
+}
+
+/* The most minutes of the most variables; fewer for some; sums at the powers of two. */
+static void check_minutes_of_wide(void)
+{
+    minutes by = {40, {0}};
+    make_wide();
+    for (uint32_t sum = 1; sum <= 32768; sum *= 2) {
+        check_wide_sum(sum);
+    }
+    check_wide_clearances(&by, 1);
+    check_wide_blockers(&by, 1, 38);
+    for (size_t i = 0; i < 40; i++) {
+        by.entries[i] = 1000;
+    }
+    check_wide_clearances(&by, 1);
+    check_wide_blockers(&by, 1, 38);
+    by.entries[39] = 999;
+    check_wide_clearances(&by, 0);
+    check_wide_blockers(&by, 1, 38);
+    by.entries[38] = by.entries[39] = 500;
+    check_wide_clearances(&by, 1);
+    check_wide_blockers(&by, 1, 38);
+    by.entries[38] = 499;
+    check_wide_blockers(&by, 1, 0);
+    for (uint32_t i = 0; i < 40; i++) {
+        by.entries[i] = 1000 - i;
+    }
+    check_wide_clearances(&by, 0);
+    check_wide_blockers(&by, 0, 38);
+    by.entries[38] = by.entries[39] = 490;
+    check_wide_clearances(&by, 1);
+    check_wide_blockers(&by, 0, 18);
 }
 
 static void check_view(void)
@@ -862,12 +1255,19 @@ typedef struct {
     size_t positives, negatives, counts, statuses, compatibles;
 } walk_lengths;
 
-static quelbrift_answer walk(const table *circuit, uint32_t capacity, const quelbrift_step *steps, size_t count, walk_lengths lengths)
+static quelbrift_answer walk_by(const minutes *by, const table *circuit, uint32_t capacity, const quelbrift_step *steps, size_t count,
+                                walk_lengths lengths)
 {
     memset(&walked, 0xa5, sizeof walked);
-    return quelbrift_walk(TABLE(circuit), capacity, steps, count, walked.listed.positives, lengths.positives,
+    return quelbrift_walk(TABLE(circuit), by->entries, by->length, capacity, steps, count, walked.listed.positives, lengths.positives,
                           walked.listed.negatives, lengths.negatives, walked.listed.counts, lengths.counts, walked.statuses,
                           lengths.statuses, walked.compatibles, lengths.compatibles);
+}
+
+static quelbrift_answer walk(const table *circuit, uint32_t capacity, const quelbrift_step *steps, size_t count, walk_lengths lengths)
+{
+    const minutes none = no_minutes(circuit);
+    return walk_by(&none, circuit, capacity, steps, count, lengths);
 }
 
 /* Buffers just long enough. */
@@ -1076,6 +1476,72 @@ static void check_walk_refusals(void)
     }
 }
 
+/* The rows as quelbrift_list lists them by the same minutes, whatever else the walk finds; the lists that are lent are only read. */
+static void check_walk_minutes(void)
+{
+    /* Minutes, and the masks of the clearance that comes first by them. */
+    static const struct {
+        minutes by;
+        uint64_t positive, negative;
+    } calls[] = {
+        {{3, {0, 0, 0}}, 0, 3}, {{3, {1000, 1000, 1000}}, 0, 3}, {{3, {0, 3, 0}}, 5, 0}, {{3, {5, 1, 1}}, 4, 2},
+        {{3, {2, 7, 1, 1001}}, 5, 0},
+    };
+    buffers lent;
+    for (call = 0; call < LENGTH(calls); call++) {
+        table circuit = worked;
+        minutes by = calls[call].by;
+        quelbrift_step steps[8];
+        memcpy(steps, loading, sizeof steps);
+        EXPECT_DONE(walk_by(&by, &circuit, 4, steps, 8, fitting(&circuit, 4, 8)), 1, 6);
+        EXPECT(entries_are(loading_statuses, loading_compatibles, 8));
+        EXPECT_DONE(list_fitting(quelbrift_list, &by, &lent, &circuit, 4), 0, 0);
+        EXPECT(memcmp(&walked.listed, &lent, sizeof lent) == 0);
+        EXPECT(walked.listed.positives[16] == calls[call].positive && walked.listed.negatives[16] == calls[call].negative);
+        EXPECT(memcmp(&by, &calls[call].by, sizeof by) == 0);
+        EXPECT(memcmp(&circuit, &worked, sizeof circuit) == 0);
+        EXPECT(memcmp(steps, loading, sizeof steps) == 0);
+    }
+}
+
+/* 56 comes after the table's refusals, 54, 55 and 41, and before 42; it leaves every buffer as it was. */
+static void check_walk_minutes_refusals(void)
+{
+    static const quelbrift_step out_of_range[] = {DROP(0), DROP(3)}, no_act[] = {{0, 3}};
+    static const walk_lengths longest = {96, 96, 12, MORE_STEPS, MORE_STEPS};
+    for (call = 0; call < LENGTH(wrong_minutes); call++) {
+        const minutes *wrong = &wrong_minutes[call];
+        for (uint32_t capacity = 0; capacity <= 5; capacity++) {
+            for (size_t count = 0; count <= 8; count += 4) {
+                EXPECT_REFUSED(walk_by(wrong, &worked, capacity, loading, count, fitting(&worked, capacity, count)), QUELBRIFT_MINUTES, 0);
+                EXPECT(untouched());
+            }
+        }
+        EXPECT_REFUSED(walk_by(wrong, &worked, 4, loading, 8, longest), QUELBRIFT_MINUTES, 0);
+        EXPECT(untouched());
+        EXPECT_REFUSED(walk_by(wrong, &worked, 4, out_of_range, 2, longest), QUELBRIFT_STEP_VARIABLE, 1);
+        EXPECT(untouched());
+        EXPECT_REFUSED(walk_by(wrong, &worked, 4, no_act, 1, longest), QUELBRIFT_STEP_SHAPE, 0);
+        EXPECT(untouched());
+        EXPECT_REFUSED(walk_by(wrong, &worked, 4, loading, 8, (walk_lengths){20, 19, 5, 8, 8}), QUELBRIFT_BUFFERS, 0);
+        EXPECT(untouched());
+        EXPECT_REFUSED(walk_by(wrong, &worked, 4, loading, 8, (walk_lengths){20, 20, 5, 7, 8}), QUELBRIFT_BUFFERS, 0);
+        EXPECT(untouched());
+        EXPECT_REFUSED(walk_by(wrong, &worked, 4, loading, 8, (walk_lengths){20, 20, 5, 8, 7}), QUELBRIFT_BUFFERS, 0);
+        EXPECT(untouched());
+        EXPECT_REFUSED(walk_by(wrong, &worked, 4097, loading, 8, longest), QUELBRIFT_BUFFERS, 0);
+        EXPECT(untouched());
+    }
+    FOR_EACH_REFUSED(row) {
+        static const minutes wrong = {47, {[0] = 1001, [46] = UINT32_MAX}};
+        EXPECT_REFUSED(walk_by(&wrong, row, 4, loading, 1, longest), row->number, row->place);
+        EXPECT(untouched());
+    }
+    EXPECT_REFUSED(walk_by(&(minutes){3, {1000, 1000, 1000}}, &worked, 3, loading, 8, fitting(&worked, 3, 8)), QUELBRIFT_CAPACITY, 0);
+    EXPECT(zeroed(&walked.listed, 15, 5));
+    EXPECT(entries_untouched());
+}
+
 /* The record of a step as it is lent. */
 static void check_step(void)
 {
@@ -1086,14 +1552,14 @@ static void check_step(void)
 
 static void check_version(void)
 {
-    EXPECT(QUELBRIFT_VERSION == 5);
+    EXPECT(QUELBRIFT_VERSION == 6);
     EXPECT(quelbrift_version() == QUELBRIFT_VERSION);
 }
 
 /* Every number has a text of its own. */
 static void check_texts(void)
 {
-    static const uint32_t numbers[] = {0, 10, 11, 12, 13, 14, 15, 16, 21, 22, 23, 24, 25, 31, 32, 33, 41, 42, 51, 52, 53, 54, 55};
+    static const uint32_t numbers[] = {0, 10, 11, 12, 13, 14, 15, 16, 21, 22, 23, 24, 25, 31, 32, 33, 41, 42, 51, 52, 53, 54, 55, 56};
     for (call = 0; call < LENGTH(numbers); call++) {
         EXPECT(strcmp(quelbrift_text(numbers[call]), quelbrift_text(1)) != 0);
         for (size_t other = 0; other < call; other++) {
@@ -1131,6 +1597,13 @@ int main(void)
     run(check_list_refusals);
     run(check_eight);
     run(check_eight_listed);
+    run(check_minutes);
+    run(check_minutes_of_eight);
+    run(check_many_minutes);
+    run(check_minutes_refusals);
+    run(check_minutes_of_every_variable);
+    run(check_minutes_unchanged);
+    run(check_minutes_of_wide);
     run(check_view);
     run(check_read_assignment);
     run(check_step);
@@ -1142,6 +1615,8 @@ int main(void)
     run(check_walk_limit);
     run(check_walk_steps);
     run(check_walk_refusals);
+    run(check_walk_minutes);
+    run(check_walk_minutes_refusals);
     run(check_version);
     run(check_texts);
     if (failed > 0) {

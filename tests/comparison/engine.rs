@@ -72,7 +72,7 @@ pub fn middle<T>(list: &mut [T]) -> &mut [T] {
 }
 
 /// One of the two listings.
-pub type Listing = fn(quelbrift::Table, u32, &mut [u64], &mut [u64], &mut [u32]) -> Result<(), quelbrift::Refusal>;
+pub type Listing = fn(quelbrift::Table, &[u32], u32, &mut [u64], &mut [u64], &mut [u32]) -> Result<(), quelbrift::Refusal>;
 
 pub fn listing(listed: Listed) -> Listing {
     match listed {
@@ -82,9 +82,9 @@ pub fn listing(listed: Listed) -> Listing {
 }
 
 /// Lists into the middles of three lists with margins.
-pub fn list(listed: Listed, table: &Table, capacity: u32, lists: &mut Buffers) -> Result<(), Refused> {
+pub fn list(listed: Listed, table: &Table, weights: &[u32], capacity: u32, lists: &mut Buffers) -> Result<(), Refused> {
     let Buffers { positives, negatives, counts } = lists;
-    own(listing(listed)(lent(table), capacity, middle(positives), middle(negatives), middle(counts)))
+    own(listing(listed)(lent(table), weights, capacity, middle(positives), middle(negatives), middle(counts)))
 }
 
 fn lent_steps(steps: &[Step]) -> Vec<quelbrift::Step> {
@@ -100,7 +100,7 @@ pub fn read_script(text: &[u8], variables: u32, list: &mut Vec<Step>) -> Result<
 }
 
 /// Walks a script with the middles of five lists with margins lent.
-pub fn walk(table: &Table, capacity: u32, steps: &[Step], lists: &mut Lent) -> Result<Option<u64>, Refused> {
+pub fn walk(table: &Table, weights: &[u32], capacity: u32, steps: &[Step], lists: &mut Lent) -> Result<Option<u64>, Refused> {
     let Lent { listing: Buffers { positives, negatives, counts }, statuses, compatibles } = lists;
     let buffers = quelbrift::WalkBuffers {
         positives: middle(positives),
@@ -109,6 +109,6 @@ pub fn walk(table: &Table, capacity: u32, steps: &[Step], lists: &mut Lent) -> R
         statuses: middle(statuses),
         compatibles: middle(compatibles),
     };
-    let answer = own(quelbrift::walk(lent(table), capacity, &lent_steps(steps), buffers));
+    let answer = own(quelbrift::walk(lent(table), weights, capacity, &lent_steps(steps), buffers));
     answer.map(|named| named.map(|step| step as u64))
 }

@@ -17,3 +17,4 @@ mod scripts;
 mod shrink;
 mod tally;
 mod texts;
+mod weights;

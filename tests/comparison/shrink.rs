@@ -1,4 +1,4 @@
-//! Smaller tables, texts and numbers, for small reproducers.
+//! Smaller tables, texts, weights and numbers, for small reproducers.
 
 use crate::oracle::table::{Table, MOST_CHILDREN, NODE_WORDS};
 
@@ -27,6 +27,35 @@ pub fn lists<T: Clone>(list: &[T]) -> Vec<Vec<T>> {
         length /= 2;
     }
     shorter
+}
+
+/// Smaller weights: all 0, fewer of them, lower ones.
+pub fn weights(weights: &[u32]) -> Vec<Vec<u32>> {
+    let mut smaller = vec![];
+    if weights.iter().any(|&weight| weight > 0) {
+        smaller.push(vec![0; weights.len()]);
+    }
+    smaller.extend(lists(weights));
+    for (index, &weight) in weights.iter().enumerate() {
+        for lower in numbers(u64::from(weight)) {
+            let mut changed = weights.to_vec();
+            changed[index] = lower as u32;
+            smaller.push(changed);
+        }
+    }
+    smaller
+}
+
+/// The weights for a smaller table: fewer by as many as it has fewer variables, so that a list stays right, or as wrong as it was.
+pub fn weights_for(smaller: &Table, table: &Table, weights: &[u32]) -> Vec<u32> {
+    let fewer = table.variables.saturating_sub(smaller.variables) as usize;
+    weights[..weights.len().saturating_sub(fewer)].to_vec()
+}
+
+/// The table over one variable fewer, with the weights but one.
+pub fn without_variable(table: &Table, weights: &[u32]) -> Vec<(Table, Vec<u32>)> {
+    let fewer = || Table { variables: table.variables.saturating_sub(1), ..table.clone() };
+    (0..weights.len()).map(|index| (fewer(), [&weights[..index], &weights[index + 1..]].concat())).collect()
 }
 
 /// Shorter texts, and texts with a lower digit.

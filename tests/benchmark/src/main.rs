@@ -2,7 +2,9 @@
 //! clearances and then for blockers: `cargo run --release`. With `-- worst` the worst circuits found; the algorithm before does not run
 //! on those marked slow, and with `-- worst by-hand` the engine does not either. With `-- search` a search for bad circuits. With
 //! `-- partial` the verdict for a partial assignment beside the count of models. With `-- walk` the walk of a script beside the listing
-//! that it starts with. A listing of every node clears the lent buffers first, and that is in its time.
+//! that it starts with. With `-- weights` the engine's listings by random weights beside those by weights that are all 0, which all
+//! others lend: by hand and the other peers keep to the order without weights. A listing of every node clears the lent buffers first,
+//! and that is in its time.
 mod buffers;
 mod by_hand;
 mod by_hand_before;
@@ -10,6 +12,7 @@ mod check;
 mod circuit;
 mod columns;
 mod diagrams;
+mod engine;
 mod factors;
 mod families;
 mod listing;
@@ -24,9 +27,10 @@ mod terms;
 mod timing;
 mod truth_table;
 mod walk;
+mod weights;
 
 use families::Family;
-use measure::{measure, steps, stop, Cell, Measured, Peer};
+use measure::{geometric_mean, measure, steps, stop, Cell, Measured, Peer};
 use std::time::Duration;
 use terms::Of;
 use timing::Runs;
@@ -54,24 +58,23 @@ fn cells(measured: &Measured) -> String {
 }
 
 /// The number of rows, or that there are more than the capacity.
-fn shown_rows(measured: &Measured, capacity: u32) -> String {
-    measured.rows.map_or(format!(">{capacity}"), |rows| rows.to_string())
+fn shown_rows(rows: Option<usize>, capacity: u32) -> String {
+    rows.map_or(format!(">{capacity}"), |rows| rows.to_string())
 }
 
 /// A line of the table.
 fn line(of: Of, family: &Family, capacity: u32) -> Measured {
     let measured = measure(of, family, &[Peer::Engine, Peer::ByHand, Peer::Before, Peer::Diagrams], capacity, Runs::Several);
-    let (table, rows) = (family.circuit.table(), shown_rows(&measured, capacity));
+    let (table, rows) = (family.circuit.table(), shown_rows(measured.rows, capacity));
     println!("{:<38} {:>2} {:>5} {rows:>5} {capacity:>8} {}", family.name, table.variables, table.nodes, cells(&measured));
     measured
 }
 
 /// The geometric means of the engine's time beside that by hand and that of the diagrams, where there was room.
 fn print_means(name: &str, lines: &[Measured]) {
-    let mean = |ratios: Vec<f64>| (ratios.iter().map(|ratio| ratio.ln()).sum::<f64>() / ratios.len() as f64).exp();
     let listed = || lines.iter().filter(|line| line.rows.is_some());
-    let by_hand = mean(listed().filter_map(|line| line.engine.ratio(line.by_hand)).collect());
-    let diagrams = mean(listed().filter_map(|line| line.engine.ratio(line.diagrams)).collect());
+    let by_hand = geometric_mean(listed().filter_map(|line| line.engine.ratio(line.by_hand)).collect());
+    let diagrams = geometric_mean(listed().filter_map(|line| line.engine.ratio(line.diagrams)).collect());
     println!("geometric means, {name}: engine / by hand {by_hand:.2}, engine / diagrams {diagrams:.2}");
 }
 
@@ -102,7 +105,7 @@ fn usual(of: Of) {
 /// A line of the table of worst circuits: each is run once.
 fn worst_line(of: Of, family: &Family, peers: &[Peer]) -> Measured {
     let measured = measure(of, family, peers, CAPACITY, Runs::Once);
-    let ([n, nodes], rows) = ([family.circuit.variables, family.circuit.nodes() as u32], shown_rows(&measured, CAPACITY));
+    let ([n, nodes], rows) = ([family.circuit.variables, family.circuit.nodes() as u32], shown_rows(measured.rows, CAPACITY));
     println!("{:<51} {n:>2} {nodes:>5} {rows:>5} {:>11} {}", family.name, steps(of, family, CAPACITY), cells(&measured));
     measured
 }
@@ -143,6 +146,7 @@ fn main() {
         ["search"] => searched(),
         ["partial"] => partial::print(),
         ["walk"] => walk::print(),
-        _ => stop("the commands are none, worst, worst by-hand, search, partial, and walk"),
+        ["weights"] => weights::print(),
+        _ => stop("the commands are none, worst, worst by-hand, search, partial, walk, and weights"),
     }
 }

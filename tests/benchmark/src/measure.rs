@@ -6,7 +6,7 @@ use crate::listing::{Lent, Listed};
 use crate::steps::Counted;
 use crate::terms::{Of, Term};
 use crate::timing::{least, shown, Runs};
-use crate::{by_hand, by_hand_before, diagrams, truth_table};
+use crate::{by_hand, by_hand_before, diagrams, engine, truth_table};
 use quelbrift::{Refusal, Table};
 use std::time::Duration;
 
@@ -61,10 +61,10 @@ pub enum Peer {
 impl Peer {
     /// Lists into the buffers: whether there was room. None where it gives up.
     fn list(self, of: Of, family: &Family, capacity: u32, buffers: &mut Buffers) -> Option<bool> {
-        let (table, Buffers { positives, negatives, counts }) = (family.circuit.table(), buffers);
+        let table = family.circuit.table();
+        let Buffers { positives, negatives, counts } = buffers;
         let listed = match self {
-            Peer::Engine if of == Of::Function => quelbrift::list(table, capacity, positives, negatives, counts),
-            Peer::Engine => quelbrift::list_negation(table, capacity, positives, negatives, counts),
+            Peer::Engine => engine::list(of, table, engine::zeros(table), capacity, buffers),
             Peer::ByHand => by_hand::list(of, table, capacity, positives, negatives, counts),
             Peer::Before => by_hand_before::list(of, table, capacity, positives, negatives, counts),
             Peer::Diagrams => match diagrams::list(of, table, capacity, positives, negatives, counts) {
@@ -77,12 +77,17 @@ impl Peer {
 }
 
 /// Whether a listing had room; the program stops where it is refused for something else.
-fn had_room(family: &Family, listed: Listed) -> bool {
+pub fn had_room(family: &Family, listed: Listed) -> bool {
     match listed {
         Ok(()) => true,
         Err(Refusal { number: 42, .. }) => false,
         Err(refusal) => stop(&format!("{}: {refusal}", family.name)),
     }
+}
+
+/// The geometric mean of some ratios.
+pub fn geometric_mean(ratios: Vec<f64>) -> f64 {
+    (ratios.iter().map(|ratio| ratio.ln()).sum::<f64>() / ratios.len() as f64).exp()
 }
 
 /// The times of a family, and the number of prime implicants; none where they are more than the capacity, which the listings of every

@@ -46,7 +46,12 @@ pub fn size(t: Term) -> u32 {
     (t.positive | t.negative).count_ones()
 }
 
-/// The order: fewer literals, then the smaller mask of all variables, then the smaller positive mask.
+/// The sum of the weights of the variables, whatever their signs.
+pub fn sum(weights: &[u32], t: Term) -> u32 {
+    (0..weights.len()).filter(|x| (t.positive | t.negative) >> x & 1 == 1).map(|x| weights[x]).sum()
+}
+
+/// The order without weights: fewer literals, then the smaller mask of all variables, then the smaller positive mask.
 pub fn key(t: Term) -> (u32, u64, u64) {
     (size(t), t.positive | t.negative, t.positive)
 }

@@ -3,9 +3,9 @@
 use crate::buffers::Buffers;
 use crate::families::{filled_product, hidden_weighted_bit, one_product, parity, product, Family};
 use crate::measure::stop;
-use crate::terms::{conflict, extend, Term, EMPTY};
+use crate::terms::{conflict, extend, Of, Term, EMPTY};
 use crate::timing::{least, shown, Runs};
-use crate::CAPACITY;
+use crate::{engine, CAPACITY};
 use quelbrift::{Refusal, Step, Table, WalkBuffers, MAX_NODES, MAX_STEPS};
 
 /// The most steps, over all of so many variables.
@@ -32,13 +32,13 @@ struct Lent {
 
 impl Lent {
     fn list(&mut self, table: Table) -> Result<(), Refusal> {
-        let Buffers { positives, negatives, counts } = &mut self.listing;
-        quelbrift::list(table, CAPACITY, positives, negatives, counts)
+        engine::list(Of::Function, table, engine::zeros(table), CAPACITY, &mut self.listing)
     }
 
     fn walk(&mut self, table: Table, steps: &[Step]) -> Result<Option<usize>, Refusal> {
         let Lent { listing: Buffers { positives, negatives, counts }, statuses, compatibles } = self;
-        quelbrift::walk(table, CAPACITY, steps, WalkBuffers { positives, negatives, counts, statuses, compatibles })
+        let buffers = WalkBuffers { positives, negatives, counts, statuses, compatibles };
+        quelbrift::walk(table, engine::zeros(table), CAPACITY, steps, buffers)
     }
 
     /// Whether each entry is that of the partial assignment after its step, judged by itself.

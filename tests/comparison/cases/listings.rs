@@ -11,11 +11,12 @@ use crate::oracle::view;
 use crate::random::Random;
 use crate::shrink;
 
-/// A listing: what is listed, the capacity, and the lengths of the buffers (positive masks, negative masks, counts).
+/// A listing: what is listed, the weights, the capacity, and the lengths of the buffers (positive masks, negative masks, counts).
 #[derive(Clone, Debug)]
 pub struct Listing {
     pub listed: Listed,
     pub table: Table,
+    pub weights: Vec<u32>,
     pub capacity: u32,
     pub lengths: [usize; 3],
     /// The seed of what the buffers hold before.
@@ -50,14 +51,14 @@ pub fn with_middles(lists: &Buffers, middles: &Buffers) -> Buffers {
 }
 
 impl Listing {
-    pub fn new(listed: Listed, table: Table, capacity: u32, lengths: [usize; 3], noise: u64) -> Listing {
-        Listing { listed, table, capacity, lengths, noise }
+    pub fn new(listed: Listed, table: Table, weights: &[u32], capacity: u32, lengths: [usize; 3], noise: u64) -> Listing {
+        Listing { listed, table, weights: weights.to_vec(), capacity, lengths, noise }
     }
 
     /// With buffers just enough.
-    pub fn fitting(listed: Listed, table: Table, capacity: u32, noise: u64) -> Listing {
+    pub fn fitting(listed: Listed, table: Table, weights: &[u32], capacity: u32, noise: u64) -> Listing {
         let (nodes, rows) = (table.nodes as usize, table.nodes as usize * capacity as usize);
-        Listing::new(listed, table, capacity, [rows, rows, nodes], noise)
+        Listing::new(listed, table, weights, capacity, [rows, rows, nodes], noise)
     }
 
     fn operation(&self) -> &'static str {
@@ -71,9 +72,9 @@ impl Listing {
     pub fn compared_by(&self, oracle: &Oracle, primes: &[Vec<Term>]) -> Result<Seen, String> {
         let before = noise(self.noise, self.lengths);
         let mut after = before.clone();
-        let engine_answer = engine::caught(|| engine::list(self.listed, &self.table, self.capacity, &mut after));
+        let engine_answer = engine::caught(|| engine::list(self.listed, &self.table, &self.weights, self.capacity, &mut after));
         let mut lent = middles(&before);
-        let answer = listing::list(oracle, primes, self.capacity, &mut lent);
+        let answer = listing::list(oracle, primes, &self.weights, self.capacity, &mut lent);
         let expected = with_middles(&before, &lent);
         same(self.operation(), engine_answer, Ok(answer))?;
         same_entries("counts", &after.counts, &expected.counts, MARGIN)?;
@@ -100,8 +101,15 @@ impl Case for Listing {
             let rows = (table.nodes as usize).saturating_mul(self.capacity as usize);
             let fitting = [rows, rows, table.nodes as usize];
             let lengths = [0, 1, 2].map(|buffer| fitting[buffer].min(self.lengths[buffer]));
-            smaller.push(Listing { table: table.clone(), lengths, ..self.clone() });
-            smaller.push(Listing { table, ..self.clone() });
+            let weights = shrink::weights_for(&table, &self.table, &self.weights);
+            smaller.push(Listing { table: table.clone(), weights: weights.clone(), lengths, ..self.clone() });
+            smaller.push(Listing { table, weights, ..self.clone() });
+        }
+        for weights in shrink::weights(&self.weights) {
+            smaller.push(Listing { weights, ..self.clone() });
+        }
+        for (table, weights) in shrink::without_variable(&self.table, &self.weights) {
+            smaller.push(Listing { table, weights, ..self.clone() });
         }
         for capacity in shrink::numbers(u64::from(self.capacity)) {
             smaller.push(Listing { capacity: capacity as u32, ..self.clone() });
@@ -117,8 +125,8 @@ impl Case for Listing {
     }
 
     fn paste(&self) -> String {
-        let Listing { listed, table, capacity, lengths, noise } = self;
-        format!("Listing::new({listed:?}, {}, {capacity}, {lengths:?}, {noise})", paste_table(table))
+        let Listing { listed, table, weights, capacity, lengths, noise } = self;
+        format!("Listing::new({listed:?}, {}, &{weights:?}, {capacity}, {lengths:?}, {noise})", paste_table(table))
     }
 
     fn notes(&self) -> String {

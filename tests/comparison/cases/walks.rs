@@ -15,10 +15,11 @@ use crate::shrink;
 /// The number of lent buffers: positive masks, negative masks, counts, statuses, numbers of clearances left.
 pub const BUFFERS: usize = 5;
 
-/// A walk: the capacity, the steps, and the lengths of the buffers.
+/// A walk: the weights, the capacity, the steps, and the lengths of the buffers.
 #[derive(Clone, Debug)]
 pub struct Walk {
     pub table: Table,
+    pub weights: Vec<u32>,
     pub capacity: u32,
     pub steps: Vec<Step>,
     pub lengths: [usize; BUFFERS],
@@ -65,24 +66,24 @@ fn with_middles(lists: &Lent, middles: &Lent) -> Lent {
 
 impl Walk {
     /// The steps as pairs of a variable and an act.
-    pub fn new(table: Table, capacity: u32, steps: &[(u32, u32)], lengths: [usize; BUFFERS], noise: u64) -> Walk {
+    pub fn new(table: Table, weights: &[u32], capacity: u32, steps: &[(u32, u32)], lengths: [usize; BUFFERS], noise: u64) -> Walk {
         let steps = steps.iter().map(|&(variable, act)| Step { variable, act }).collect();
-        Walk { table, capacity, steps, lengths, noise }
+        Walk { table, weights: weights.to_vec(), capacity, steps, lengths, noise }
     }
 
     /// With buffers just enough.
-    pub fn fitting(table: Table, capacity: u32, steps: Vec<Step>, noise: u64) -> Walk {
+    pub fn fitting(table: Table, weights: &[u32], capacity: u32, steps: Vec<Step>, noise: u64) -> Walk {
         let lengths = enough(&table, capacity, steps.len());
-        Walk { table, capacity, steps, lengths, noise }
+        Walk { table, weights: weights.to_vec(), capacity, steps, lengths, noise }
     }
 
     /// Compares the answers and every entry, also those in the margins.
     pub fn compared_by(&self, oracle: &Oracle, primes: &[Vec<Term>]) -> Result<Walked, String> {
         let before = noise(self.noise, self.lengths);
         let mut after = before.clone();
-        let engine_answer = engine::caught(|| engine::walk(&self.table, self.capacity, &self.steps, &mut after));
+        let engine_answer = engine::caught(|| engine::walk(&self.table, &self.weights, self.capacity, &self.steps, &mut after));
         let mut lent = middles(&before);
-        let answer = walk::walk(oracle, primes, self.capacity, &self.steps, &mut lent);
+        let answer = walk::walk(oracle, primes, &self.weights, self.capacity, &self.steps, &mut lent);
         let expected = with_middles(&before, &lent);
         same("walk: the step named, or the refusal", engine_answer, Ok(answer))?;
         same_entries("statuses", &after.statuses, &expected.statuses, MARGIN)?;
@@ -96,11 +97,12 @@ impl Walk {
         })
     }
 
-    /// With another table, and buffers as long as before or, if that is shorter, just enough.
-    fn with_table(&self, table: Table) -> Walk {
+    /// With a smaller table, its weights, and buffers that are just enough if that is shorter than before, or as long as before.
+    fn with_table(&self, table: Table) -> [Walk; 2] {
         let fitting = enough(&table, self.capacity, self.steps.len());
         let lengths = [0, 1, 2, 3, 4].map(|buffer| fitting[buffer].min(self.lengths[buffer]));
-        Walk { table, lengths, ..self.clone() }
+        let weights = shrink::weights_for(&table, &self.table, &self.weights);
+        [lengths, self.lengths].map(|lengths| Walk { table: table.clone(), weights: weights.clone(), lengths, ..self.clone() })
     }
 }
 
@@ -129,7 +131,13 @@ impl Case for Walk {
     fn smaller(&self) -> Vec<Walk> {
         let mut smaller: Vec<Walk> = smaller_steps(&self.steps).into_iter().map(|steps| Walk { steps, ..self.clone() }).collect();
         for table in shrink::tables(&self.table) {
-            smaller.extend([self.with_table(table.clone()), Walk { table, ..self.clone() }]);
+            smaller.extend(self.with_table(table));
+        }
+        for weights in shrink::weights(&self.weights) {
+            smaller.push(Walk { weights, ..self.clone() });
+        }
+        for (table, weights) in shrink::without_variable(&self.table, &self.weights) {
+            smaller.push(Walk { table, weights, ..self.clone() });
         }
         for capacity in shrink::numbers(u64::from(self.capacity)) {
             smaller.push(Walk { capacity: capacity as u32, ..self.clone() });
@@ -145,9 +153,9 @@ impl Case for Walk {
     }
 
     fn paste(&self) -> String {
-        let Walk { table, capacity, steps, lengths, noise } = self;
+        let Walk { table, weights, capacity, steps, lengths, noise } = self;
         let steps: Vec<(u32, u32)> = steps.iter().map(|step| (step.variable, step.act)).collect();
-        format!("Walk::new({}, {capacity}, &{steps:?}, {lengths:?}, {noise})", paste_table(table))
+        format!("Walk::new({}, &{weights:?}, {capacity}, &{steps:?}, {lengths:?}, {noise})", paste_table(table))
     }
 
     fn notes(&self) -> String {

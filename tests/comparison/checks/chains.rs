@@ -8,13 +8,14 @@ use crate::oracle::listing::Buffers;
 use crate::oracle::table::{Node, Table};
 use crate::random::Random;
 use crate::tally::Tally;
+use crate::weights;
 
 /// The rows of every node as the engine lists them: the masks of the variables marked yes and of those marked no.
-fn rows(listed: Listed, table: &Table, capacity: u32) -> Vec<Vec<(u64, u64)>> {
+pub fn rows(listed: Listed, table: &Table, weights: &[u32], capacity: u32) -> Vec<Vec<(u64, u64)>> {
     let (nodes, capacity) = (table.nodes as usize, capacity as usize);
     let [rows, counts] = [nodes * capacity, nodes].map(|length| length + 2 * engine::MARGIN);
     let mut lists = Buffers { positives: vec![7; rows], negatives: vec![7; rows], counts: vec![7; counts] };
-    engine::list(listed, table, capacity as u32, &mut lists).expect("room enough");
+    engine::list(listed, table, weights, capacity as u32, &mut lists).expect("room enough");
     let Buffers { positives, negatives, counts } = &mut lists;
     let pairs: Vec<(u64, u64)> = engine::middle(positives).iter().copied().zip(engine::middle(negatives).iter().copied()).collect();
     let counts = engine::middle(counts);
@@ -38,10 +39,13 @@ fn two_child_tables_list_the_rows_they_listed() {
         conjunctions += nodes.iter().filter(|node| matches!(node, Node::Both(_))).count();
         let table = Table::of(variables, &nodes);
         let mut listings = Listings::new(format!("two children, seed {seed}"), &table, &mut tally);
-        listings.list_around(seed, |whole| [whole, whole.saturating_sub(1)]);
+        listings.list_around(&random, |whole| [whole, whole.saturating_sub(1)]);
     }
     assert!(conjunctions > 5_000, "{conjunctions} conjunctions only");
-    tally.expect(&[("list", &[(0, 5), (1, 1_900), (42, 1_900)]), ("list_negation", &[(0, 100), (1, 1_500), (42, 1_500)])]);
+    tally.expect(&[
+        ("list", &[(0, 5), (1, 1_900), (42, 1_900), (56, 300)]),
+        ("list_negation", &[(0, 100), (1, 1_500), (42, 1_500), (56, 300)]),
+    ]);
 }
 
 /// A conjunction of many children has the rows of a chain of conjunctions of two, and so has every node above it.
@@ -57,7 +61,8 @@ fn a_conjunction_lists_the_rows_of_a_chain() {
         let mut tally = Tally::default();
         let listings = Listings::new(format!("chains, seed {seed}"), &one, &mut tally);
         for listed in Listed::BOTH {
-            let [of_one, of_chain] = [&one, &chain].map(|table| rows(listed, table, listings.whole(listed)));
+            let weights = weights::right(&random, variables);
+            let [of_one, of_chain] = [&one, &chain].map(|table| rows(listed, table, &weights, listings.whole(listed)));
             for (node, &place) in places.iter().enumerate() {
                 assert_eq!(of_one[node], of_chain[place as usize], "seed {seed}, {listed:?} of node {node} of {nodes:?}");
             }

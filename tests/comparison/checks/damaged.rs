@@ -16,6 +16,7 @@ use crate::partials;
 use crate::random::Random;
 use crate::scripts;
 use crate::tally::Tally;
+use crate::weights;
 
 /// Any mask, mostly one within the variables.
 fn mask(random: &Random, table: &Table) -> u64 {
@@ -46,8 +47,9 @@ fn every_operation(origin: &str, random: &Random, table: &Table, tally: &mut Tal
     let longer = random.position(3);
     let lengths =
         random.choose(&[[rows + longer, rows, (table.nodes as usize).min(60)], [rows, rows + longer, 70], [0, 0, 0], [9, 8, 7]]);
+    let weights = || weights::any(random, table.variables.min(64));
     for listed in Listed::BOTH {
-        compare(origin, &Listing::new(listed, table.clone(), capacity, lengths, random.next()), tally);
+        compare(origin, &Listing::new(listed, table.clone(), &weights(), capacity, lengths, random.next()), tally);
     }
     let sink = random.choose(&[0, 40, 400, 4_000, random.position(300)]);
     compare(origin, &Writing::new(table.clone(), sink), tally);
@@ -57,7 +59,7 @@ fn every_operation(origin: &str, random: &Random, table: &Table, tally: &mut Tal
     }
     let [positives, negatives, counts] = lengths;
     let lengths = [positives, negatives, counts, random.choose(&[steps.len(), steps.len(), 3]), steps.len() + longer];
-    compare(origin, &Walk { table: table.clone(), capacity, steps, lengths, noise: random.next() }, tally);
+    compare(origin, &Walk { table: table.clone(), weights: weights(), capacity, steps, lengths, noise: random.next() }, tally);
 }
 
 #[test]
@@ -77,9 +79,9 @@ fn damaged_tables() {
         ("partial", &[(0, 200), (1, 200), (2, 200), (32, 200), (53, 500)]),
         ("prime", &[(0, 500), (1, 50), (32, 200)]),
         ("reduce", &[(1, 500), (31, 200), (33, 500)]),
-        ("list", &[(1, 500), (41, 500), (42, 500)]),
-        ("list_negation", &[(0, 500), (1, 500), (41, 500), (42, 500)]),
-        ("walk", &[(0, 200), (1, 50), (41, 500), (42, 200), (54, 1_000), (55, 200)]),
+        ("list", &[(1, 500), (41, 500), (42, 500), (56, 500)]),
+        ("list_negation", &[(0, 500), (1, 500), (41, 500), (42, 500), (56, 500)]),
+        ("walk", &[(0, 200), (1, 50), (41, 500), (42, 200), (54, 1_000), (55, 200), (56, 200)]),
         ("write", &[(1, 5_000), (16, 5_000), (21, 1_000), (22, 3_000)]),
     ]);
 }

@@ -14,11 +14,13 @@ use crate::oracle::function::{Listed, Term};
 use crate::oracle::script::MOST_STEPS;
 use crate::oracle::table::{Table, MOST_CHILDREN, MOST_NODES, NODE_WORDS};
 use crate::oracle::text::MOST_BYTES;
+use crate::oracle::weights::MOST_WEIGHT;
 use crate::partials;
 use crate::random::Random;
 use crate::scripts;
 use crate::tally::Tally;
 use crate::texts;
+use crate::weights;
 
 /// What the header states, and what the comparison itself needs.
 const STATED_STACK: usize = 512 * 1024;
@@ -40,7 +42,8 @@ fn largest_work(seed: u64) -> u64 {
     let [clauses, parity] = [(variables, clauses), (13, circuits::parity(13))].map(|(variables, nodes)| Table::of(variables, &nodes));
     for listed in Listed::BOTH {
         for (table, capacity) in [(&table, 300), (&clauses, 4_096), (&parity, 4_096)] {
-            compare("limits", &Listing::fitting(listed, table.clone(), capacity, seed), &mut tally);
+            let weights = weights::right(&random, table.variables);
+            compare("limits", &Listing::fitting(listed, table.clone(), &weights, capacity, seed), &mut tally);
         }
     }
     compare("limits", &Writing::new(table.clone(), MOST_BYTES), &mut tally);
@@ -49,8 +52,9 @@ fn largest_work(seed: u64) -> u64 {
     }
     compare("limits", &Reading::new(texts::largest(&random).as_bytes(), MOST_WORDS), &mut tally);
     for (table, capacity) in [(&table, 300), (&clauses, 4_096)] {
-        let steps = scripts::steps(&random, table.variables, Term::EMPTY, MOST_STEPS);
-        compare("limits", &Walk::fitting(table.clone(), capacity, steps, seed), &mut tally);
+        let (steps, weights) =
+            (scripts::steps(&random, table.variables, Term::EMPTY, MOST_STEPS), weights::right(&random, table.variables));
+        compare("limits", &Walk::fitting(table.clone(), &weights, capacity, steps, seed), &mut tally);
     }
     compare("limits", &Script::new(&scripts::text(&random, 40, MOST_STEPS), 40, MOST_STEPS), &mut tally);
     tally.total()
@@ -80,4 +84,5 @@ fn limits_of_the_papers() {
     assert_eq!(quelbrift::MAX_NODES as usize, MOST_NODES);
     assert_eq!(quelbrift::MAX_TEXT, MOST_BYTES);
     assert_eq!(quelbrift::MAX_STEPS, MOST_STEPS);
+    assert_eq!(quelbrift::MAX_WEIGHT, MOST_WEIGHT);
 }

@@ -1,4 +1,4 @@
-//! Listings of random accepted tables at all capacities and buffer lengths, and views of them.
+//! Listings of random accepted tables by any weights at all capacities and buffer lengths, and views of them.
 
 use crate::cases::listings::{Listing, View};
 use crate::circuits;
@@ -8,6 +8,7 @@ use crate::oracle::function::{Listed, Term};
 use crate::oracle::table::Table;
 use crate::random::Random;
 use crate::tally::Tally;
+use crate::weights;
 
 /// One table with its clearances and its blockers, listed in many ways.
 pub struct Listings<'a> {
@@ -32,8 +33,13 @@ impl<'a> Listings<'a> {
         self.primes[listed as usize].last().expect("a node").len() as u32
     }
 
-    pub fn list(&mut self, listed: Listed, capacity: u32, lengths: [usize; 3], noise: u64) {
-        let case = Listing::new(listed, self.table.clone(), capacity, lengths, noise);
+    /// The clearances, or blockers, of a node.
+    pub fn rows(&self, listed: Listed, node: usize) -> &[Term] {
+        &self.primes[listed as usize][node]
+    }
+
+    pub fn list(&mut self, listed: Listed, weights: &[u32], capacity: u32, lengths: [usize; 3], noise: u64) {
+        let case = Listing::new(listed, self.table.clone(), weights, capacity, lengths, noise);
         trace(&self.origin, || case.clone());
         match case.compared_by(&self.oracle, &self.primes[listed as usize]) {
             Ok(seen) => self.tally.see(seen),
@@ -47,24 +53,30 @@ impl<'a> Listings<'a> {
         [rows, rows, self.table.nodes as usize]
     }
 
-    /// Both listings, each at some capacities made from the number of its own rows, with buffers just enough.
-    pub fn list_around<const K: usize>(&mut self, noise: u64, capacities: impl Fn(u32) -> [u32; K]) {
+    /// Both listings, each at some capacities made from the number of its own rows, with buffers just enough; at times by wrong weights
+    /// too.
+    pub fn list_around<const K: usize>(&mut self, random: &Random, capacities: impl Fn(u32) -> [u32; K]) {
+        let variables = self.table.variables;
         for listed in Listed::BOTH {
             for capacity in capacities(self.whole(listed)) {
-                self.list(listed, capacity, self.enough(capacity), noise);
+                self.list(listed, &weights::right(random, variables), capacity, self.enough(capacity), random.next());
+                if random.once_in(8) {
+                    self.list(listed, &weights::wrong(random, variables), capacity, self.enough(capacity), random.next());
+                }
             }
         }
     }
 
     /// Buffers that are just enough, longer by different lengths, and one of them too short by one or by more.
     fn list_with_all_lengths(&mut self, random: &Random, listed: Listed, capacity: u32) {
-        let enough = self.enough(capacity);
-        self.list(listed, capacity, enough, random.next());
-        self.list(listed, capacity, enough.map(|length| length + random.position(9)), random.next());
+        let (enough, variables) = (self.enough(capacity), self.table.variables);
+        self.list(listed, &weights::right(random, variables), capacity, enough, random.next());
+        let longer = enough.map(|length| length + random.position(9));
+        self.list(listed, &weights::any(random, variables), capacity, longer, random.next());
         let mut short = enough.map(|length| length + random.position(3));
         let buffer = random.position(3);
         short[buffer] = enough[buffer].saturating_sub(random.choose(&[1, 1, 1 + random.position(enough[buffer].max(1))]));
-        self.list(listed, capacity, short, random.next());
+        self.list(listed, &weights::any(random, variables), capacity, short, random.next());
     }
 
     /// The views of all nodes, and some that are out of range.
@@ -94,8 +106,8 @@ fn list_everything(listings: &mut Listings, random: &Random, listed: Listed) {
             listings.view(random, listed, capacity);
         }
     }
-    let above = random.choose(&[4097, 5000, 1 << 31, u32::MAX]);
-    listings.list(listed, above, [random.position(99), random.position(99), random.position(99)], random.next());
+    let (above, weights) = (random.choose(&[4097, 5000, 1 << 31, u32::MAX]), weights::any(random, listings.table.variables));
+    listings.list(listed, &weights, above, [random.position(99), random.position(99), random.position(99)], random.next());
 }
 
 #[test]
@@ -109,8 +121,8 @@ fn listings_of_accepted_tables() {
         Listed::BOTH.iter().for_each(|&listed| list_everything(&mut listings, &random, listed));
     }
     tally.expect(&[
-        ("list", &[(0, 30), (1, 10_000), (41, 10_000), (42, 5_000)]),
-        ("list_negation", &[(0, 1_000), (1, 10_000), (41, 10_000), (42, 5_000)]),
+        ("list", &[(0, 30), (1, 10_000), (41, 10_000), (42, 5_000), (56, 1_500)]),
+        ("list_negation", &[(0, 1_000), (1, 9_000), (41, 10_000), (42, 5_000), (56, 1_500)]),
         ("view", &[(0, 40_000), (1, 40_000)]),
     ]);
 }

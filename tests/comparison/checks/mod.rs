@@ -15,5 +15,6 @@ mod regressions;
 mod scripts;
 mod small;
 mod walks;
+mod weights;
 mod wide;
 mod writing;

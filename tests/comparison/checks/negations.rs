@@ -12,12 +12,13 @@ use crate::oracle::table::{Node, Table};
 use crate::oracle::Refused;
 use crate::random::Random;
 use crate::tally::Tally;
+use crate::weights;
 
 /// The answer of a listing, and all that it leaves in buffers that held something.
-fn left(listed: Listed, table: &Table, capacity: u32) -> (Result<(), Refused>, Buffers) {
+fn left(listed: Listed, table: &Table, weights: &[u32], capacity: u32) -> (Result<(), Refused>, Buffers) {
     let [rows, counts] = [table.nodes as usize * capacity as usize, table.nodes as usize].map(|length| length + 2 * engine::MARGIN + 1);
     let mut lists = Buffers { positives: vec![7; rows], negatives: vec![7; rows], counts: vec![7; counts] };
-    (engine::list(listed, table, capacity, &mut lists), lists)
+    (engine::list(listed, table, weights, capacity, &mut lists), lists)
 }
 
 /// A decision diagram, often over many variables, whose negation is accepted too: no `pick` has two `true` children.
@@ -46,8 +47,10 @@ fn blockers_are_the_clearances_of_the_negation() {
         let [own, negated] = [nodes.clone(), circuits::negated(&nodes)].map(|nodes| Table::of(variables, &nodes));
         for capacity in [random.choose(&[1, 8, 30]), random.choose(&[64, 100, 300]), random.choose(&[700, 1_500])] {
             for (one, other) in [(&own, &negated), (&negated, &own)] {
-                let blockers = left(Listed::Blockers, one, capacity);
-                assert!(blockers == left(Listed::Clearances, other, capacity), "seed {seed}, capacity {capacity}, {one:?}");
+                let weights = weights::any(&random, variables);
+                let blockers = left(Listed::Blockers, one, &weights, capacity);
+                let clearances = left(Listed::Clearances, other, &weights, capacity);
+                assert!(blockers == clearances, "seed {seed}, weights {weights:?}, capacity {capacity}, {one:?}");
                 let (answer, Buffers { mut counts, .. }) = blockers;
                 longest = engine::middle(&mut counts).iter().copied().fold(longest, u32::max);
                 tally.see(("list_negation", answer.map_or_else(|refusal| refusal.number, |()| 1)));
@@ -55,7 +58,7 @@ fn blockers_are_the_clearances_of_the_negation() {
         }
     }
     assert!(longest > 1_000, "the longest listing has {longest} rows");
-    tally.expect(&[("list_negation", &[(1, 1_000), (42, 500)])]);
+    tally.expect(&[("list_negation", &[(1, 900), (42, 500), (56, 300)])]);
 }
 
 /// The clearances and the blockers of every node of `circuits::cubes`, in the order of its nodes.
@@ -92,12 +95,13 @@ fn with_literal((variables, mut nodes): Part, known: &mut [Vec<Vec<Term>>; 2]) -
 }
 
 /// The engine's listings of a circuit whose rows are known: just enough room, one too little, and the most.
-fn list_known(table: &Table, known: &[Vec<Vec<Term>>; 2], tally: &mut Tally) {
+fn list_known(random: &Random, table: &Table, known: &[Vec<Vec<Term>>; 2], tally: &mut Tally) {
     for (listed, rows) in Listed::BOTH.into_iter().zip(known) {
         let whole = rows.last().expect("a node").len() as u32;
         for capacity in [whole, whole - 1, 4_096].map(|capacity| capacity.min(4_096)) {
-            let compared = Listing::fitting(listed, table.clone(), capacity, 1).compared_by(&Oracle::new(table), rows);
-            tally.see(compared.unwrap_or_else(|difference| panic!("{listed:?} of {table:?}\n{difference}")));
+            let weights = weights::right(random, table.variables);
+            let compared = Listing::fitting(listed, table.clone(), &weights, capacity, 1).compared_by(&Oracle::new(table), rows);
+            tally.see(compared.unwrap_or_else(|difference| panic!("{listed:?} of {table:?} by {weights:?}\n{difference}")));
         }
     }
 }
@@ -105,12 +109,12 @@ fn list_known(table: &Table, known: &[Vec<Vec<Term>>; 2], tally: &mut Tally) {
 /// Few clearances and as many blockers as a listing can hold, one too many for the room, and more than any listing holds.
 #[test]
 fn few_clearances_and_many_blockers() {
-    let mut tally = Tally::default();
+    let (mut tally, random) = (Tally::default(), Random::of(0x7300_0000, 0));
     for (number, size, wholes) in [(6, 4, [6, 4096]), (12, 2, [12, 4096]), (8, 3, [8, 6561]), (5, 5, [5, 3125]), (2, 19, [2, 361])] {
         let (circuit, mut known) = (circuits::cubes(number, size), rows_of_cubes(number, size));
         assert_eq!([0, 1].map(|listed: usize| known[listed].last().expect("a node").len()), wholes);
-        list_known(&Table::of(circuit.0, &circuit.1), &known, &mut tally);
-        list_known(&with_literal(circuit, &mut known), &known, &mut tally);
+        list_known(&random, &Table::of(circuit.0, &circuit.1), &known, &mut tally);
+        list_known(&random, &with_literal(circuit, &mut known), &known, &mut tally);
     }
     tally.expect(&[("list", &[(1, 20), (42, 10)]), ("list_negation", &[(1, 12), (42, 18)])]);
 }

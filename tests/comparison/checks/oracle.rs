@@ -7,10 +7,13 @@ use crate::oracle::function::{is_prime, Functions, Listed, Term};
 use crate::oracle::measurements::Measurements;
 use crate::oracle::script::{self, Step, MOST_STEPS};
 use crate::oracle::table::{Node, Table};
+use crate::oracle::weights::ordered;
 use crate::oracle::{grammar, refused, rows, text, walk, writer, Refused};
 use crate::partials;
 use crate::random::Random;
 use crate::scripts;
+use crate::weights;
+use std::cmp::Ordering;
 use std::collections::HashSet;
 
 #[test]
@@ -90,6 +93,46 @@ fn clearances_and_blockers_disagree() {
             let some = |rows: &[Term]| rows.iter().any(|row| row.agrees_with(assignment));
             let allowed = accepted.allows(assignment);
             assert_eq!((some(&clearances), some(&blockers)), (allowed, !allowed), "seed {seed}, {assignment:b}");
+        }
+    }
+}
+
+/// Rows in order by weights: each comes before every later one, mark by mark.
+#[test]
+fn rows_in_order_and_single_comparisons_agree() {
+    for seed in 0..1_000 {
+        let random = Random::of(0x2200, seed);
+        let variables = random.between(1, 40) as u32;
+        let weights = weights::right(&random, variables);
+        let mut terms: Vec<Term> = vec![];
+        for _ in 0..random.position(30) {
+            let term = partials::term(&random, variables);
+            if !terms.contains(&term) {
+                terms.push(term);
+            }
+        }
+        let ordered = ordered(&weights, &terms);
+        let marked = |term: &Term| (0..variables).filter(|variable| term.marks() >> variable & 1 == 1).collect::<Vec<u32>>();
+        let before = |a: &Term, b: &Term| {
+            let [of_a, of_b] = [a, b].map(marked);
+            let [sum_a, sum_b] = [&of_a, &of_b].map(|marks| marks.iter().map(|&variable| weights[variable as usize]).sum::<u32>());
+            // The highest variable that only one of them marks, or marks yes, makes the larger mask.
+            let highest = |one: &dyn Fn(u32) -> bool, other: &dyn Fn(u32) -> bool| {
+                (0..variables).rev().find(|&variable| one(variable) != other(variable)).map(other)
+            };
+            let has = |marks: &[u32], variable: u32| marks.contains(&variable);
+            let masks = highest(&|variable| has(&of_a, variable), &|variable| has(&of_b, variable));
+            let yes = highest(&|variable| a.positive >> variable & 1 == 1, &|variable| b.positive >> variable & 1 == 1);
+            match (sum_a.cmp(&sum_b), of_a.len().cmp(&of_b.len())) {
+                (Ordering::Equal, Ordering::Equal) => masks.or(yes).expect("two rows"),
+                (Ordering::Equal, marks) => marks == Ordering::Less,
+                (sums, _) => sums == Ordering::Less,
+            }
+        };
+        assert_eq!(ordered.len(), terms.len(), "seed {seed}");
+        for (index, row) in ordered.iter().enumerate() {
+            assert!(terms.contains(row), "seed {seed}");
+            assert!(ordered[index + 1..].iter().all(|later| before(row, later) && !before(later, row)), "seed {seed}, {row:?}");
         }
     }
 }

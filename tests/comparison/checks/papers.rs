@@ -1,5 +1,5 @@
 //! The table P1 to P12, the worked example and a conjunction of three, by both sides: the answers stand here as the scope gives them,
-//! and the blockers, the conjunction and a walk as worked out by hand from the definitions.
+//! and the blockers, the conjunction, a walk and orders by weights as worked out by hand from the definitions.
 
 use crate::cases::listings::Listing;
 use crate::cases::partials;
@@ -18,7 +18,7 @@ use crate::oracle::measurements::Measurements;
 use crate::oracle::script::{self, Step};
 use crate::oracle::table::{Table, NODE_WORDS};
 use crate::oracle::walk::{self, Lent};
-use crate::oracle::{text, Refused};
+use crate::oracle::{text, weights, Refused};
 use crate::tally::Tally;
 
 /// The words that the program lends.
@@ -76,11 +76,16 @@ fn same_on_both_sides(case: impl Case) {
     compare("papers", &case, &mut Tally::default());
 }
 
-/// The rows of the last node as the engine lists them, in so much room.
-fn rows_of_engine(listed: Listed, lent: quelbrift::Table, capacity: u32) -> Result<Vec<String>, quelbrift::Refusal> {
+/// Weights that are all 0.
+fn zeros(variables: u32) -> Vec<u32> {
+    vec![0; variables as usize]
+}
+
+/// The rows of the last node as the engine lists them by the weights, in so much room.
+fn rows_of_engine(listed: Listed, lent: quelbrift::Table, weights: &[u32], capacity: u32) -> Result<Vec<String>, quelbrift::Refusal> {
     let (nodes, length) = (lent.nodes as usize, (lent.nodes * capacity) as usize);
     let (mut positives, mut negatives, mut counts) = (vec![7; length], vec![7; length], vec![7; nodes]);
-    engine::listing(listed)(lent, capacity, &mut positives, &mut negatives, &mut counts)?;
+    engine::listing(listed)(lent, weights, capacity, &mut positives, &mut negatives, &mut counts)?;
     let last = |buffer| quelbrift::view(buffer, capacity, lent.nodes - 1, counts[nodes - 1]);
     Ok(last(&positives).iter().zip(last(&negatives)).map(|(positive, negative)| row(*positive, *negative)).collect())
 }
@@ -112,7 +117,7 @@ fn engine_against_paper(known: &Known) -> Table {
             let nothing_known = partials::engine_answer(&table, Term::EMPTY, &Measurements::default());
             assert_eq!(nothing_known, Ok(Ok(completions(models, variables))), "{}", known.text);
             for (listed, rows) in Listed::BOTH.into_iter().zip(rows) {
-                let of_engine = rows_of_engine(listed, lent, rows.len() as u32);
+                let of_engine = rows_of_engine(listed, lent, &zeros(variables), rows.len() as u32);
                 assert_eq!(of_engine.expect("listed"), rows, "{listed:?} of {}", known.text);
             }
         }
@@ -150,8 +155,8 @@ fn circuits_of_the_papers() {
         same_on_both_sides(Asked::new(table.clone(), Check));
         same_on_both_sides(Asked::new(table.clone(), Count));
         for (listed, capacity) in Listed::BOTH.into_iter().flat_map(|listed| (0..6).map(move |capacity| (listed, capacity))) {
-            let rows = (table.nodes * capacity) as usize;
-            same_on_both_sides(Listing::new(listed, table.clone(), capacity, [rows, rows + 1, table.nodes as usize], 5));
+            let (rows, weights) = ((table.nodes * capacity) as usize, zeros(table.variables));
+            same_on_both_sides(Listing::new(listed, table.clone(), &weights, capacity, [rows, rows + 1, table.nodes as usize], 5));
         }
     }
 }
@@ -167,8 +172,39 @@ fn capacities_of_the_papers() {
     for (listed, calls) in capacities {
         for (known, capacity, refusal) in calls {
             let table = engine_against_paper(&KNOWN[known]);
-            let refused = rows_of_engine(listed, engine::lent(&table), capacity).err();
+            let refused = rows_of_engine(listed, engine::lent(&table), &zeros(table.variables), capacity).err();
             assert_eq!(refused.map(|refusal| (refusal.number, refusal.place)), refusal.map(|number| (number, 0)));
+        }
+    }
+}
+
+/// A circuit of the table by its place, weights, and the rows by them: P9, P11 and P12, and the conjunction of three. Of -2 -3, +0 -1 -2,
+/// -0 -1 +2 and -0 -1 -3, which are P12's, one minute for fact 3 makes the first and the last the later ones, and so on.
+const WEIGHED: [(usize, &[u32], [Rows; 2]); 11] = [
+    (8, &[30, 5, 10], [&["-1 +2", "-0 -1", "+0 +1", "+0 +2"], &["-0 +1", "+0 -1 -2"]]),
+    (8, &[0, 3, 0], [&["+0 +2", "-0 -1", "+0 +1", "-1 +2"], &["-0 +1", "+0 -1 -2"]]),
+    (8, &[1000, 1000, 1000], [&["-0 -1", "+0 +1", "+0 +2", "-1 +2"], &["-0 +1", "+0 -1 -2"]]),
+    (10, &[7, 0, 0, 0], [&["-2 -3", "+0 -2", "-0 +2", "-0 -3"], &["+0 +2", "-0 -2 +3"]]),
+    (10, &[999, 0, 1000, 0], [&["-0 -3", "-2 -3", "+0 -2", "-0 +2"], &["+0 +2", "-0 -2 +3"]]),
+    (11, &[0, 0, 0, 1], [&["+0 -1 -2", "-0 -1 +2", "-2 -3", "-0 -1 -3"], &["+0 +2", "+1 +2", "+1 +3", "-0 -2 +3"]]),
+    (11, &[0, 0, 1000, 1], [&["-0 -1 -3", "+0 -1 -2", "-0 -1 +2", "-2 -3"], &["+1 +3", "+0 +2", "+1 +2", "-0 -2 +3"]]),
+    (11, &[0, 5, 0, 0], [&["-2 -3", "+0 -1 -2", "-0 -1 +2", "-0 -1 -3"], &["+0 +2", "-0 -2 +3", "+1 +2", "+1 +3"]]),
+    (11, &[1, 1, 2, 1], [&["-2 -3", "-0 -1 -3", "+0 -1 -2", "-0 -1 +2"], &["+1 +3", "+0 +2", "+1 +2", "-0 -2 +3"]]),
+    (12, &[2, 9, 1, 4], [&["-1 +2 +3", "+0 -1 +3"], &["-0 -2", "-3", "+1"]]),
+    (12, &[0, 1, 1, 1], [&["+0 -1 +3", "-1 +2 +3"], &["+1", "-3", "-0 -2"]]),
+];
+
+#[test]
+fn orders_by_hand() {
+    for (place, weights, rows) in WEIGHED {
+        let table = engine_against_paper(&KNOWN[place]);
+        for (listed, rows) in Listed::BOTH.into_iter().zip(rows) {
+            let of_engine = rows_of_engine(listed, engine::lent(&table), weights, rows.len() as u32);
+            assert_eq!(of_engine.expect("listed"), rows, "{listed:?} of {} by {weights:?}", KNOWN[place].text);
+            let last = Oracle::new(&table).accepted().expect("accepted").primes(listed).pop().expect("a node");
+            let of_oracle = weights::ordered(weights, &last).iter().map(|term| row(term.positive, term.negative)).collect::<Vec<_>>();
+            assert_eq!(of_oracle, rows, "{listed:?} of {} by {weights:?}", KNOWN[place].text);
+            same_on_both_sides(Listing::fitting(listed, table.clone(), weights, rows.len() as u32, 5));
         }
     }
 }
@@ -198,11 +234,11 @@ fn a_walk_by_hand() {
         assert_eq!(script::text(&steps), text);
         let listing = Buffers { positives: vec![7; 20], negatives: vec![7; 20], counts: vec![7; 5] };
         let mut lent = Lent { listing, statuses: vec![7; length], compatibles: vec![7; length] };
-        let named = walk::walk(&oracle, &primes, 4, &steps, &mut lent).expect("walked");
+        let named = walk::walk(&oracle, &primes, &[0, 0, 0], 4, &steps, &mut lent).expect("walked");
         assert_eq!(named, known.last().and_then(|line| line.3), "{text}");
         assert_eq!(lent.statuses, known.iter().map(|line| line.1).collect::<Vec<_>>(), "{text}");
         assert_eq!(lent.compatibles, known.iter().map(|line| line.2).collect::<Vec<_>>(), "{text}");
         same_on_both_sides(Script::new(text.as_bytes(), 3, length));
-        same_on_both_sides(Walk::fitting(table.clone(), 4, steps, 5));
+        same_on_both_sides(Walk::fitting(table.clone(), &[0, 0, 0], 4, steps, 5));
     }
 }

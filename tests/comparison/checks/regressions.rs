@@ -29,10 +29,13 @@ fn regressions() {
     }
     again(Partial::new(worked(), 4, 0, &[1], &[5], &[7], &[8]));
     again(Partial::new(worked(), 4, 0, &[1, 0], &[5, 5], &[7], &[8, 5]));
-    again(Listing::new(Clearances, worked(), 4, [20, 20, 5], 1));
-    again(Listing::new(Clearances, worked(), 3, [15, 15, 5], 1));
-    again(Listing::new(Blockers, worked(), 2, [10, 10, 5], 1));
-    again(Listing::new(Blockers, worked(), 1, [5, 5, 5], 1));
+    again(Listing::new(Clearances, worked(), &[0, 0, 0], 4, [20, 20, 5], 1));
+    again(Listing::new(Clearances, worked(), &[30, 5, 10], 4, [20, 20, 5], 1));
+    again(Listing::new(Clearances, worked(), &[0, 0, 0], 3, [15, 15, 5], 1));
+    again(Listing::new(Clearances, worked(), &[0, 0, 1001], 3, [15, 15, 5], 1));
+    again(Listing::new(Blockers, worked(), &[1000, 1000, 1000], 2, [10, 10, 5], 1));
+    again(Listing::new(Blockers, worked(), &[0, 0, 0], 1, [5, 5, 5], 1));
+    again(Listing::new(Blockers, worked(), &[0, 0], 1, [5, 4, 5], 1));
     again(Writing::new(worked(), 100));
     again(View::new(20, 4, 4, 4));
     again(Reading::new(b"(circuit 3)\n(pick 0 (no 1) (pick 1 (yes 2) (true)))\n", 55));
@@ -40,7 +43,8 @@ fn regressions() {
     again(Line::new(b"(stow 0 2)\n", 3));
     again(Script::new(b"(set 0 yes)\n(drop 2)\n(set 0 no)\n", 3, 4));
     again(Script::new(b"(set 3 yes)\n(drop 2)\n(set 0 no)\n", 3, 2));
-    again(Walk::new(worked(), 4, &[(0, 1), (1, 0), (2, 1), (0, 2)], [20, 20, 5, 4, 4], 1));
-    again(Walk::new(worked(), 4, &[(0, 1), (3, 3)], [19, 20, 5, 4, 4], 1));
-    again(Walk::new(worked(), 3, &[(0, 1)], [15, 15, 5, 1, 1], 1));
+    again(Walk::new(worked(), &[30, 5, 10], 4, &[(0, 1), (1, 0), (2, 1), (0, 2)], [20, 20, 5, 4, 4], 1));
+    again(Walk::new(worked(), &[0, 0, 0, 0], 4, &[(0, 1), (3, 3)], [19, 20, 5, 4, 4], 1));
+    again(Walk::new(worked(), &[0, 0, 0], 3, &[(0, 1)], [15, 15, 5, 1, 1], 1));
+    again(Walk::new(worked(), &[0, 0, 0, 0], 3, &[(0, 1)], [15, 15, 5, 1, 1], 1));
 }

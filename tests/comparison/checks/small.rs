@@ -45,7 +45,7 @@ fn every_operation(table: &Table, random: &Random, tally: &mut Tally) {
         return questioning.ask(Check);
     }
     ask_everything(&mut questioning, random);
-    Listings::new("small".to_string(), table, tally).list_around(1, |whole| [whole, whole.saturating_sub(1)]);
+    Listings::new("small".to_string(), table, tally).list_around(random, |whole| [whole, whole.saturating_sub(1)]);
 }
 
 #[test]
@@ -56,8 +56,8 @@ fn every_small_table() {
     }
     tally.expect(&[
         ("check", &[(0, 5_000), (23, 50_000), (24, 5_000), (25, 1_000)]),
-        ("list", &[(0, 6), (1, 5_000), (42, 5_000)]),
-        ("list_negation", &[(0, 1_000), (1, 5_000), (42, 5_000)]),
+        ("list", &[(0, 6), (1, 5_000), (42, 5_000), (56, 1_000)]),
+        ("list_negation", &[(0, 1_000), (1, 5_000), (42, 5_000), (56, 1_000)]),
     ]);
 }
 

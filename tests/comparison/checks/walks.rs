@@ -1,4 +1,4 @@
-//! Walks of loading scripts: many replacements and drops, steps wrong in each way, buffers of every length, wide circuits.
+//! Walks of loading scripts: many replacements and drops, steps wrong in each way, any weights, buffers of every length, wide circuits.
 
 use super::negations::rows_of_cubes;
 use crate::cases::walks::{enough, Walk, BUFFERS};
@@ -12,6 +12,7 @@ use crate::oracle::table::{Node, Table};
 use crate::random::Random;
 use crate::scripts;
 use crate::tally::Tally;
+use crate::weights;
 
 /// The answers seen, and of the walks that are done every entry of the statuses.
 #[derive(Default)]
@@ -56,8 +57,8 @@ impl<'a> Walking<'a> {
         self.clearances().len() as u32
     }
 
-    fn walk(&mut self, capacity: u32, steps: &[Step], lengths: [usize; BUFFERS], noise: u64) {
-        let case = Walk { table: self.table.clone(), capacity, steps: steps.to_vec(), lengths, noise };
+    fn walk(&mut self, weights: Vec<u32>, capacity: u32, steps: &[Step], lengths: [usize; BUFFERS], noise: u64) {
+        let case = Walk { table: self.table.clone(), weights, capacity, steps: steps.to_vec(), lengths, noise };
         trace(&self.origin, || case.clone());
         let walked = case.compared_by(&self.oracle, &self.primes).unwrap_or_else(|difference| self.fail(&case, &difference));
         self.seen.answers.see(walked.seen);
@@ -72,9 +73,15 @@ impl<'a> Walking<'a> {
         panic!("engine and oracle differ ({}):\n    {}\n{difference}{}", self.origin, case.paste(), case.notes());
     }
 
-    /// With buffers just enough.
-    fn walk_fitting(&mut self, capacity: u32, steps: &[Step], noise: u64) {
-        self.walk(capacity, steps, enough(self.table, capacity, steps.len()), noise);
+    /// By any weights, right ones or wrong ones.
+    fn walk_by_any(&mut self, random: &Random, capacity: u32, steps: &[Step], lengths: [usize; BUFFERS]) {
+        self.walk(weights::any(random, self.table.variables), capacity, steps, lengths, random.next());
+    }
+
+    /// By right weights, with buffers just enough.
+    fn walk_fitting(&mut self, random: &Random, capacity: u32, steps: &[Step]) {
+        let weights = weights::right(random, self.table.variables);
+        self.walk(weights, capacity, steps, enough(self.table, capacity, steps.len()), random.next());
     }
 
     /// A script that leads toward one of the clearances, or nowhere.
@@ -86,12 +93,12 @@ impl<'a> Walking<'a> {
     /// Buffers just enough, longer by different lengths, and one of the five too short, by one or by more.
     fn walk_with_all_lengths(&mut self, random: &Random, capacity: u32, steps: &[Step]) {
         let enough = enough(self.table, capacity, steps.len());
-        self.walk(capacity, steps, enough, random.next());
-        self.walk(capacity, steps, enough.map(|length| length + random.position(9)), random.next());
+        self.walk_fitting(random, capacity, steps);
+        self.walk_by_any(random, capacity, steps, enough.map(|length| length + random.position(9)));
         let mut short = enough.map(|length| length + random.position(3));
         let buffer = random.position(BUFFERS);
         short[buffer] = enough[buffer].saturating_sub(random.choose(&[1, 1, 1 + random.position(enough[buffer].max(1))]));
-        self.walk(capacity, steps, short, random.next());
+        self.walk_by_any(random, capacity, steps, short);
     }
 
     /// The script with one wrong step or several, at times longer than the most; buffers enough or not.
@@ -107,7 +114,7 @@ impl<'a> Walking<'a> {
         let capacity = random.choose(&[self.whole(), self.whole() + 1, self.whole().saturating_sub(1), 4_097]);
         let enough = enough(self.table, capacity.min(4_096), damaged.len());
         let lengths = if random.once_in(2) { enough } else { enough.map(|length| random.position(length + 2)) };
-        self.walk(capacity, &damaged, lengths, random.next());
+        self.walk_by_any(random, capacity, &damaged, lengths);
     }
 
     /// Scripts in just enough room and in one too little, right ones and damaged ones.
@@ -115,11 +122,11 @@ impl<'a> Walking<'a> {
         for _ in 0..times {
             let steps = self.steps(random, scripts::number_of_steps(random));
             self.walk_with_all_lengths(random, self.whole(), &steps);
-            self.walk_fitting(self.whole().saturating_sub(1), &steps, random.next());
+            self.walk_fitting(random, self.whole().saturating_sub(1), &steps);
             self.walk_damaged(random, &steps);
         }
         let above = random.choose(&[4_097, 5_000, 1 << 31, u32::MAX]);
-        self.walk(above, &[], [0; BUFFERS].map(|_| random.position(99)), random.next());
+        self.walk_by_any(random, above, &[], [0; BUFFERS].map(|_| random.position(99)));
     }
 }
 
@@ -132,13 +139,13 @@ fn walks_through_accepted_tables() {
         let table = circuits::table(&random, variables);
         Walking::new(format!("walks, seed {seed}"), &table, &mut seen).walk_randomly(&random, 3);
     }
-    seen.expect(&[(0, 5_000), (1, 5_000), (41, 5_000), (42, 5_000), (54, 4_000), (55, 1_500)], 100_000);
+    seen.expect(&[(0, 5_000), (1, 5_000), (41, 5_000), (42, 5_000), (54, 4_000), (55, 1_500), (56, 1_500)], 100_000);
 }
 
 /// Every script of up to five steps over two variables, through a few circuits.
 #[test]
 fn every_short_script() {
-    let mut seen = Seen::default();
+    let (mut seen, random) = (Seen::default(), Random::of(0xaf00_0000, 0));
     for nodes in [
         vec![Node::False],
         vec![Node::True],
@@ -153,7 +160,7 @@ fn every_short_script() {
         for (length, script) in (0..=5).flat_map(|length| (0..6usize.pow(length)).map(move |script| (length, script))) {
             let digit = |place: u32| (script / 6usize.pow(place) % 6) as u32;
             let steps: Vec<Step> = (0..length).map(|place| Step { variable: digit(place) / 3, act: digit(place) % 3 }).collect();
-            walking.walk_fitting(walking.whole(), &steps, script as u64);
+            walking.walk_fitting(&random, walking.whole(), &steps);
         }
     }
     seen.expect(&[(0, 20_000), (1, 20_000)], 30_000);
@@ -162,7 +169,7 @@ fn every_short_script() {
 /// Every pair of numbers at the limits as a step among right ones, in scripts of all lengths about the most.
 #[test]
 fn every_wrong_step() {
-    let mut seen = Seen::default();
+    let (mut seen, random) = (Seen::default(), Random::of(0xaf10_0000, 0));
     let table = Table::of(3, &[Node::No(1), Node::Yes(2), Node::True, Node::Pick(1, 1, 2), Node::Pick(0, 0, 3)]);
     let mut walking = Walking::new("every wrong step".to_string(), &table, &mut seen);
     let variables = [0, 2, 3, 4, 39, 40, 63, 64, 1 << 31, u32::MAX];
@@ -175,15 +182,15 @@ fn every_wrong_step() {
                     continue;
                 }
                 steps[place] = Step { variable, act };
-                walking.walk_fitting(4, &steps, 1);
+                walking.walk_fitting(&random, 4, &steps);
                 // A second wrong step, anywhere; and buffers too short for anything.
                 steps[(place * 7 + 3) % length] = Step { variable: act, act: variable };
-                walking.walk_fitting(3, &steps, 2);
-                walking.walk(4, &steps, [0; BUFFERS], 3);
+                walking.walk_by_any(&random, 3, &steps, enough(&table, 3, length));
+                walking.walk_by_any(&random, 4, &steps, [0; BUFFERS]);
             }
         }
     }
-    seen.expect(&[(0, 50), (1, 20), (41, 100), (42, 100), (54, 5_000), (55, 1_500)], 1_000);
+    seen.expect(&[(0, 50), (1, 20), (41, 100), (42, 80), (54, 5_000), (55, 1_500), (56, 10)], 1_000);
 }
 
 /// Scripts of every length up to one past the most, in step buffers of that length, one less and one more.
@@ -197,17 +204,17 @@ fn every_length() {
         let steps = walking.steps(&random, length);
         for statuses in [length, length + 1, length.saturating_sub(1)] {
             for compatibles in [length, length + 1, length.saturating_sub(1)] {
-                walking.walk(1, &steps, [3, 3, 3, statuses, compatibles], random.next());
+                walking.walk_by_any(&random, 1, &steps, [3, 3, 3, statuses, compatibles]);
             }
         }
     }
-    seen.expect(&[(0, 100), (1, 100), (41, 1_000), (54, 9)], 5_000);
+    seen.expect(&[(0, 100), (1, 100), (41, 1_000), (54, 9), (56, 100)], 5_000);
 }
 
 /// The step named: of all runs of "allowed" the last one, if it reaches the end.
 #[test]
 fn every_pattern_of_allowed() {
-    let mut seen = Seen::default();
+    let (mut seen, random) = (Seen::default(), Random::of(0xaf20_0000, 0));
     let table = Table::of(1, &[Node::Yes(0)]);
     let mut walking = Walking::new("every pattern".to_string(), &table, &mut seen);
     for length in 0..=10 {
@@ -215,7 +222,7 @@ fn every_pattern_of_allowed() {
             for otherwise in [NO, DROP] {
                 let act = |place: u64| if pattern >> place & 1 == 1 { YES } else { otherwise };
                 let steps: Vec<Step> = (0..length).map(|place| Step { variable: 0, act: act(place) }).collect();
-                walking.walk_fitting(1, &steps, pattern);
+                walking.walk_fitting(&random, 1, &steps);
             }
         }
     }
@@ -232,7 +239,7 @@ fn scattered_variables() {
         let table = Table::of(variables, &circuits::scattered(&random, &circuits::nodes(&random, named), variables));
         Walking::new(format!("walks, scattered, seed {seed}"), &table, &mut seen).walk_randomly(&random, 3);
     }
-    seen.expect(&[(0, 1_000), (1, 1_000), (41, 1_000), (42, 1_000), (54, 1_000), (55, 300)], 10_000);
+    seen.expect(&[(0, 1_000), (1, 1_000), (41, 1_000), (42, 1_000), (54, 1_000), (55, 300), (56, 400)], 10_000);
 }
 
 /// Conjunctions of circuits over different variables, up to 40 in all: up to thousands of clearances.
@@ -252,11 +259,11 @@ fn conjunctions() {
             longest = longest.max(walking.whole());
             for number in [30, 120, 256] {
                 let steps = walking.steps(&random, number);
-                walking.walk_fitting(walking.whole(), &steps, random.next());
+                walking.walk_fitting(&random, walking.whole(), &steps);
             }
         }
         let steps = walking.steps(&random, 50);
-        walking.walk_fitting((walking.whole() - 1).min(4_096), &steps, random.next());
+        walking.walk_fitting(&random, (walking.whole() - 1).min(4_096), &steps);
         walking.walk_damaged(&random, &steps);
     }
     assert!(longest > 1_000, "the longest listing has {longest} rows");
@@ -276,7 +283,7 @@ fn decisions_over_many_variables() {
             walking.walk_randomly(&Random::of(0xae00_0000, 100 * u64::from(number) + seed), 3);
         }
     }
-    seen.expect(&[(0, 500), (1, 70), (41, 400), (42, 300), (54, 200), (55, 80)], 500);
+    seen.expect(&[(0, 500), (1, 70), (41, 400), (42, 300), (54, 200), (55, 60), (56, 50)], 500);
 }
 
 /// As many clearances as a listing can hold, one too many for the room, and more than any listing holds; the most steps.
@@ -295,8 +302,8 @@ fn long_listings() {
         for seed in 0..6 {
             let random = Random::of(0xac00_0000, seed);
             let steps = walking.steps(&random, MOST_STEPS);
-            walking.walk_fitting(whole.min(4_096), &steps, seed);
-            walking.walk_fitting((whole - 1).min(4_096), &steps, seed);
+            walking.walk_fitting(&random, whole.min(4_096), &steps);
+            walking.walk_fitting(&random, (whole - 1).min(4_096), &steps);
         }
     }
     seen.expect(&[(0, 5), (1, 2), (42, 30)], 100);
@@ -312,7 +319,7 @@ fn largest_walk() {
     let mut walking = Walking::new("largest walk".to_string(), &table, &mut seen);
     for capacity in [walking.whole(), 4_096] {
         let steps = walking.steps(&random, MOST_STEPS);
-        walking.walk_fitting(capacity, &steps, 1);
+        walking.walk_fitting(&random, capacity, &steps);
     }
     assert_eq!(seen.answers.total(), 2);
 }

@@ -20,7 +20,7 @@ fn scattered_variables() {
         let table = Table::of(variables, &circuits::scattered(&random, &nodes, variables));
         let origin = format!("scattered, seed {seed}");
         ask_randomly(&mut Questioning::new(origin.clone(), &table, &mut tally), &random, 10);
-        Listings::new(origin, &table, &mut tally).list_around(seed, |whole| [whole, whole.saturating_sub(1), whole + 2]);
+        Listings::new(origin, &table, &mut tally).list_around(&random, |whole| [whole, whole.saturating_sub(1), whole + 2]);
     }
     tally.expect(&[
         ("count", &[(1, 2_500)]),
@@ -28,8 +28,8 @@ fn scattered_variables() {
         ("implies", &[(0, 5_000), (1, 5_000), (32, 5_000)]),
         ("prime", &[(0, 5_000), (1, 5_000), (32, 5_000)]),
         ("reduce", &[(1, 5_000), (31, 1_000), (33, 5_000)]),
-        ("list", &[(1, 4_000), (42, 2_000)]),
-        ("list_negation", &[(0, 500), (1, 4_000), (42, 2_000)]),
+        ("list", &[(1, 4_000), (42, 2_000), (56, 500)]),
+        ("list_negation", &[(0, 500), (1, 4_000), (42, 2_000), (56, 500)]),
     ]);
 }
 
@@ -74,7 +74,7 @@ fn many_variables_and_nodes() {
 /// As many clearances or blockers as a listing can hold, one too many for the room, and more than any listing holds.
 #[test]
 fn long_listings() {
-    let mut tally = Tally::default();
+    let (mut tally, random) = (Tally::default(), Random::of(0x4600_0000, 0));
     let symmetric = |variables: u32, numbers: u64| (variables, circuits::symmetric(variables, numbers));
     // The conjunction of a circuit with itself over other variables, so that rows of the two come in turn.
     let twice = |part: Part| {
@@ -97,7 +97,7 @@ fn long_listings() {
         let table = Table::of(variables, &nodes);
         let mut listings = Listings::new(name.to_string(), &table, &mut tally);
         assert_eq!(Listed::BOTH.map(|listed| listings.whole(listed)), wholes, "{name}");
-        listings.list_around(1, |whole| [whole, whole - 1].map(|capacity| capacity.min(4_096)));
+        listings.list_around(&random, |whole| [whole, whole - 1].map(|capacity| capacity.min(4_096)));
     }
     tally.expect(&[("list", &[(1, 8), (42, 14)]), ("list_negation", &[(1, 10), (42, 12)])]);
 }
@@ -114,7 +114,7 @@ fn parts(random: &Random) -> Vec<Part> {
 }
 
 /// One conjunction of all the parts, or of some at a time until one is left.
-fn grouped(random: &Random, mut parts: Vec<Part>) -> Vec<Node> {
+pub fn grouped(random: &Random, mut parts: Vec<Part>) -> Vec<Node> {
     while parts.len() > 1 {
         let number = random.choose(&[2, MOST_CHILDREN, MOST_CHILDREN]).min(parts.len());
         let whole = circuits::conjunction(&parts[..number]);
@@ -134,7 +134,7 @@ fn conjunctions() {
         let nodes = grouped(&random, parts(&random));
         let table = Table::of(40, &circuits::scattered(&random, &nodes, 40));
         let mut listings = Listings::new(format!("conjunctions, seed {seed}"), &table, &mut tally);
-        listings.list_around(seed, |whole| [whole, whole.saturating_sub(1), 64].map(|capacity| capacity.min(4_096)));
+        listings.list_around(&random, |whole| [whole, whole.saturating_sub(1), 64].map(|capacity| capacity.min(4_096)));
         for listed in Listed::BOTH {
             let whole = listings.whole(listed);
             longest[listed as usize] = longest[listed as usize].max(if whole <= 4_096 { whole } else { 0 });
@@ -160,7 +160,7 @@ fn middle_listings() {
         };
         let table = Table::of(variables, &circuits::scattered(&random, &nodes, variables));
         let mut listings = Listings::new(format!("middle, seed {seed}"), &table, &mut tally);
-        listings.list_around(seed, |whole| [whole, whole.saturating_sub(1)].map(|capacity| capacity.min(4_096)));
+        listings.list_around(&random, |whole| [whole, whole.saturating_sub(1)].map(|capacity| capacity.min(4_096)));
         for listed in Listed::BOTH {
             longest[listed as usize] = longest[listed as usize].max(listings.whole(listed));
         }
@@ -176,6 +176,6 @@ fn largest_listing() {
     let random = Random::of(0x4400_0000, 0);
     let table = Table::of(40, &circuits::chain(&random, 8, 1_023));
     assert_eq!(table.nodes, 1_024);
-    Listings::new("largest".to_string(), &table, &mut tally).list_around(1, |whole| [whole, 4_096]);
+    Listings::new("largest".to_string(), &table, &mut tally).list_around(&random, |whole| [whole, 4_096]);
     tally.expect(&[("list", &[(1, 2)]), ("list_negation", &[(1, 2)])]);
 }

@@ -152,7 +152,7 @@ impl Accepted {
         counting::count_models(&self.nodes, variables)
     }
 
-    /// The clearances or the blockers of every node, in order.
+    /// The clearances or the blockers of every node, in the order without weights.
     pub fn primes(&self, listed: Listed) -> Vec<Vec<Term>> {
         match &self.functions {
             Some(functions) if functions.tried.len() <= FEW => {

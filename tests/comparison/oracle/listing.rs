@@ -2,7 +2,7 @@
 
 use super::answers::Oracle;
 use super::function::Term;
-use super::{refused, Refused};
+use super::{refused, weights, Refused};
 
 /// The lent buffers: two for the masks of the rows, one for the counts.
 #[derive(Clone, Debug, PartialEq, Eq)]
@@ -29,8 +29,8 @@ impl Buffers {
     }
 }
 
-/// Lists the rows of every node, its clearances or its blockers as they are given, at most `capacity` of each.
-pub fn list(oracle: &Oracle, primes: &[Vec<Term>], capacity: u32, buffers: &mut Buffers) -> Result<(), Refused> {
+/// Lists the rows of every node by the weights, its clearances or its blockers as they are given, at most `capacity` of each.
+pub fn list(oracle: &Oracle, primes: &[Vec<Term>], weights: &[u32], capacity: u32, buffers: &mut Buffers) -> Result<(), Refused> {
     oracle.accepted()?;
     let capacity_of_node = capacity as usize;
     let rows = primes.len() * capacity_of_node;
@@ -38,13 +38,14 @@ pub fn list(oracle: &Oracle, primes: &[Vec<Term>], capacity: u32, buffers: &mut 
     if capacity > 4096 || short {
         return refused(41, 0);
     }
+    weights::check(weights, oracle.variables)?;
     buffers.zero(rows, primes.len());
     if primes.last().expect("a node").len() > capacity_of_node {
         return refused(42, 0);
     }
     for (node, primes) in primes.iter().enumerate() {
         assert!(primes.len() <= capacity_of_node, "no count is above the last node's");
-        buffers.put(node, node * capacity_of_node, primes);
+        buffers.put(node, node * capacity_of_node, &weights::ordered(weights, primes));
     }
     Ok(())
 }

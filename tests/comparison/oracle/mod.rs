@@ -14,6 +14,7 @@ pub mod table;
 pub mod text;
 pub mod view;
 pub mod walk;
+pub mod weights;
 pub mod writer;
 
 /// A refusal: its number, and its byte, its node, its reading, its step or the needed length.

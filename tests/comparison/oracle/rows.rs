@@ -2,7 +2,7 @@
 
 use super::function::{spread, Listed, Term};
 
-/// The order of rows: fewer marks, then the smaller mask of all marked variables, then the smaller yes mask.
+/// The order of rows without weights: fewer marks, then the smaller mask of all marked variables, then the smaller yes mask.
 pub fn order(term: &Term) -> (u32, u64, u64) {
     (term.marks().count_ones(), term.marks(), term.positive)
 }

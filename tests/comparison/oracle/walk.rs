@@ -63,8 +63,15 @@ fn allowed_from(verdicts: &[Verdict]) -> Option<u64> {
     (0..verdicts.len()).find(from_here_on).map(|step| step as u64)
 }
 
-/// Walks a script through a circuit whose clearances are given by node: the step named, or none.
-pub fn walk(oracle: &Oracle, primes: &[Vec<Term>], capacity: u32, steps: &[Step], lent: &mut Lent) -> Result<Option<u64>, Refused> {
+/// Walks a script through a circuit whose clearances are given by node, and listed by the weights: the step named, or none.
+pub fn walk(
+    oracle: &Oracle,
+    primes: &[Vec<Term>],
+    weights: &[u32],
+    capacity: u32,
+    steps: &[Step],
+    lent: &mut Lent,
+) -> Result<Option<u64>, Refused> {
     oracle.accepted()?;
     if let Some(refusal) = lowest_wrong(steps, oracle.variables) {
         return Err(refusal);
@@ -72,7 +79,7 @@ pub fn walk(oracle: &Oracle, primes: &[Vec<Term>], capacity: u32, steps: &[Step]
     if lent.statuses.len() < steps.len() || lent.compatibles.len() < steps.len() {
         return refused(41, 0);
     }
-    listing::list(oracle, primes, capacity, &mut lent.listing)?;
+    listing::list(oracle, primes, weights, capacity, &mut lent.listing)?;
     let clearances = primes.last().expect("a node");
     let answers: Vec<(Verdict, u32)> = (1..=steps.len()).map(|length| answered(oracle, clearances, &steps[..length])).collect();
     for (step, (verdict, compatible)) in answers.iter().enumerate() {

@@ -30,9 +30,9 @@ pub fn copy(to: &mut [u64], from: &[u64], at: usize, count: usize)
     requires { ⌜ (at + count ≤ length (now from)) × (count ≤ length (now to)) ⌝ }
     ensures { λ _. ⌜ take count (now (to .exit)) ≡ take count (drop at (now (from .entry))) ⌝ }
 {
-    let mut i = 0;
-    while i < count {
-        to[i] = from[at + i];
-        i += 1;
+    let mut j = 0;
+    while j < count {
+        to[j] = from[at + j];
+        j += 1;
     }
 }

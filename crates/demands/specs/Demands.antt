@@ -183,8 +183,8 @@ pub record AnyInput : Type 0 where
   pub list-weighed : (c : Bool) (m : List ℕ) (N n : ℕ) (w : List ℕ) (R : ℕ) (b : Lent) (p : ℕ)
       → listTable c m N n w R b .answer ≡ refused 56 p → Weights N m → ⊥
   -- a refusal other than 42 leaves every buffer as it was
-  pub list-refused : (c : Bool) (m : List ℕ) (N n : ℕ) (w : List ℕ) (R : ℕ) (b : Lent) (k p : ℕ) → listTable c m N n w R b .answer ≡ refused k p → k ≢ 42
-      → listTable c m N n w R b .after ≡ b
+  pub list-refused : (c : Bool) (m : List ℕ) (N n : ℕ) (w : List ℕ) (R : ℕ) (b : Lent) (k p : ℕ)
+      → listTable c m N n w R b .answer ≡ refused k p → k ≢ 42 → listTable c m N n w R b .after ≡ b
   -- 42 leaves zeros in the first n × R entries of both row buffers and in the first n counts, and the rest as it was
   pub list-lack : (c : Bool) (m : List ℕ) (N n : ℕ) (w : List ℕ) (R : ℕ) (b : Lent) (p : ℕ) → listTable c m N n w R b .answer ≡ refused 42 p
       → listTable c m N n w R b .after
@@ -218,7 +218,8 @@ pub record AnyInput : Type 0 where
   -- a refusal other than 42 leaves every buffer as it was; 42 leaves the listing's as the listing does, and those of the steps
   pub walk-refused : (m : List ℕ) (N n : ℕ) (w : List ℕ) (R : ℕ) (es : List Step) (b : WalkLent) (k p : ℕ)
       → walkTable m N n w R es b .answer ≡ refused k p → k ≢ 42 → walkTable m N n w R es b .after ≡ b
-  pub walk-lack : (m : List ℕ) (N n : ℕ) (w : List ℕ) (R : ℕ) (es : List Step) (b : WalkLent) (p : ℕ) → walkTable m N n w R es b .answer ≡ refused 42 p
+  pub walk-lack : (m : List ℕ) (N n : ℕ) (w : List ℕ) (R : ℕ) (es : List Step) (b : WalkLent) (p : ℕ)
+      → walkTable m N n w R es b .answer ≡ refused 42 p
       → (listTable true m N n w R (b .rows) .answer ≡ refused 42 p)
       × (walkTable m N n w R es b .after ≡ walkLent (listTable true m N n w R (b .rows) .after) (b .statuses) (b .compatibles))
   -- a walk that is done leaves the entries past the steps as they were
@@ -325,7 +326,8 @@ pub record Means (N n : ℕ) (w : List ℕ) : Type 0 where
   pub partial : (t : Term) (m : Measurements) → IsTerm N t → ((i : ℕ) → i < entries m → T (not (wrong N (variables t) m i)))
       → JudgedWith N (circuit n w) t m (partialEvaluation N n w t m)
   -- a loading script, walked: done where no step is wrong, the steps' buffers have an entry each, and the listing is done
-  pub walks : (m : List ℕ) (R : ℕ) (es : List Step) (b : WalkLent) → ((i : ℕ) → i < length es → T (not (wrongAct es i || wrongVariable N es i)))
+  pub walks : (m : List ℕ) (R : ℕ) (es : List Step) (b : WalkLent)
+      → ((i : ℕ) → i < length es → T (not (wrongAct es i || wrongVariable N es i)))
       → length es ≤ length (b .statuses) → length es ≤ length (b .compatibles) → listTable true m N n w R (b .rows) .answer ≡ answered tt
       → (v : ℕ × ℕ) × (walkTable m N n w R es b .answer ≡ answered v)
   pub walk : (m : List ℕ) (R : ℕ) (es : List Step) (b : WalkLent) (v : ℕ × ℕ) → walkTable m N n w R es b .answer ≡ answered v

@@ -1,6 +1,6 @@
 -- The nodes' parts, put into the order by the weights m one after the other.
 use Prim.Native.Nat.{ℕ, suc, _+_, _-_, _*_, _<_, _≤_}
-use mathlib.Core.Path.{_≡_, refl, sym, ap, ap₂, subst, fun-ext, _∙_}
+use mathlib.Core.Path.{_≡_, sym, ap, ap₂, subst, fun-ext, _∙_}
 use mathlib.Core.Bool.{Bool, true, false}
 use mathlib.Core.List.{List, [], _++_, map, flatMap, append-nil, append-assoc, List·Memᴰ}
 use native.Mathlib.Nat.{le-of-eq, le-trans, suc-mul, zero-mul, mul-le-mul-right}
@@ -10,13 +10,13 @@ use lib.Seq.{take-at, drop-at, drop-drop}
 use Rattle.masks.specs.Numbers.{below}
 use Rattle.terms.specs.Lists.{sort, Rising}
 use Rattle.terms.specs.Order.{before}
-use Rattle.terms.specs.Term.{termsOf, IsTerm}
+use Rattle.terms.specs.Term.{termsOf}
 use Rattle.terms.specs.declared.Term.{Term}
 use Rattle.terms.proofs.Embeddings.{primes-length}
 use Rattle.terms.proofs.Listed.{primes-lists, primes-rising, sort-primes}
 use Rattle.terms.proofs.Weights.{primes-none}
 use Rattle.lists.specs.Capacity.{maxCapacity}
-use Rattle.insertion.specs.Filled.{bySign, masksOf}
+use Rattle.insertion.specs.Filled.{masksOf}
 use Rattle.insertion.proofs.Parts.{terms-masks, length-masks}
 use Rattle.arranging.specs.Arranged.{Arrangeable}
 use Rattle.listing.specs.Exact.{Holds}

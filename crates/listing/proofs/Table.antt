@@ -163,7 +163,8 @@ state-end {m} {N} {F} {R} {n} {s} {cs} st =
       st .counts ∙ ap (λ (q : ℕ). listedCounts m N n F ++ replicate q 0) d ∙ append-nil (listedCounts m N n F),
     )
 
-module _ {m : List ℕ} {N : ℕ} {F : ℕ → ℕ → Bool} {R n i : ℕ} {s : Bool → List ℕ} {cs : List ℕ} (st : State m N F R n i s cs) (le : i ≤ n) where
+module _ {m : List ℕ} {N : ℕ} {F : ℕ → ℕ → Bool} {R n i : ℕ} {s : Bool → List ℕ} {cs : List ℕ} (st : State m N F R n i s cs)
+    (le : i ≤ n) where
   pub state-length : (b : Bool) → length (s b) ≡ n * R
   state-length b =
       let bound : i * R ≤ n * R = mul-le-mul-right R le in
@@ -175,7 +176,8 @@ module _ {m : List ℕ} {N : ℕ} {F : ℕ → ℕ → Bool} {R n i : ℕ} {s : 
       ap length (st .counts) ∙ length-append (listedCounts m N i F) (replicate (n - i) 0)
       ∙ ap₂ _+_ (length-counts m N F R i) (length-replicate (n - i) 0) ∙ omega arith
 
-module _ {m : List ℕ} {N : ℕ} {F : ℕ → ℕ → Bool} {R n i : ℕ} {s : Bool → List ℕ} {cs : List ℕ} (st : State m N F R n i s cs) (lt : i < n) where
+module _ {m : List ℕ} {N : ℕ} {F : ℕ → ℕ → Bool} {R n i : ℕ} {s : Bool → List ℕ} {cs : List ℕ} (st : State m N F R n i s cs)
+    (lt : i < n) where
   next-part : i * R + R ≤ n * R
   next-part = let bound : suc i * R ≤ n * R = mul-le-mul-right R lt in omega (arith, suc-mul i R)
 

@@ -1,5 +1,4 @@
 // The terms of every node put into the order by weights.
-ghost use mathlib.Core.Path.{_≡_};
 ghost use Prim.Native.Nat.{_≤_};
 ghost use lib.ListN.{length};
 ghost use Rattle.insertion.specs.Filled.{bySign};

@@ -234,7 +234,8 @@ pub fn list_accepted(
     shape: Shape,
 ) -> Listing
     requires { ⌜ check (shape .variables) (shape .nodes) (now words) ≡ accepted ⌝ }
-    ensures { λ r. ⌜ ListResult (shape .sign) (now (weights .entry)) (shape .variables) (shape .nodes) (now (words .entry)) (shape .capacity)
+    ensures { λ r. ⌜ ListResult (shape .sign) (now (weights .entry)) (shape .variables) (shape .nodes) (now (words .entry))
+        (shape .capacity)
         (lent (now (positives .entry)) (now (negatives .entry)) (now (counts .entry)))
         (lent (now (positives .exit)) (now (negatives .exit)) (now (counts .exit))) r ⌝ }
 {

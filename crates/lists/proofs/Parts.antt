@@ -71,8 +71,5 @@ module _ (ps ns : List ℕ) (e : length ns ≡ length ps) (k : ℕ) where
     pub any-miss : k < length ps → p (termAt ps ns k) ≡ false → any p (drop (k + 1) (termsOf ps ns)) ≡ any p (drop k (termsOf ps ns))
     any-miss l h = sym (any-next l ∙ ap (λ (t : Bool). t || any p (drop (k + 1) (termsOf ps ns))) h)
 
-    pub any-hit : k < length ps → p (termAt ps ns k) ≡ true → any p (drop k (termsOf ps ns)) ≡ true
-    any-hit l h = any-next l ∙ ap (λ (t : Bool). t || any p (drop (k + 1) (termsOf ps ns))) h
-
     pub any-end : length ps ≤ k → any p (drop k (termsOf ps ns)) ≡ false
     any-end l = ap (any p) (drop-end l)

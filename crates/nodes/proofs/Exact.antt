@@ -41,7 +41,8 @@ use Rattle.nodes.specs.Part.{gateMade, PairGiven, places, madeFrom, node
 use Rattle.nodes.specs.declared.NodePart.{NodePart}
 
 -- two lists of all prime implicants
-abbrev sides-of : {N n : ℕ} {w : List ℕ} → Accepted N n w → (a b : List Term) (f g : ℕ → Bool) → a ≡ primes [] N f → b ≡ primes [] N g → Sides a b
+abbrev sides-of : {N n : ℕ} {w : List ℕ} → Accepted N n w → (a b : List Term) (f g : ℕ → Bool) → a ≡ primes [] N f
+    → b ≡ primes [] N g → Sides a b
 sides-of {N} acc a b f g q r =
     record {
       variables = N;
@@ -137,7 +138,8 @@ module _ {N n : ℕ} {w : List ℕ} (acc : Accepted N n w) (c : Bool) where
               subst (λ (z : List Term). length z ≤ length (made k (suc (suc m)))) (sym (after k m q))
               (subst (λ (z : List Term). length (rows-all rest) ≤ length z)
               (sym (here k m q ∙ ap rows-all s))
-              (embeds-length N [] [] (signedAll c w rest) (signedAll c w (d ∷ rest)) (rest-up acc d rest (subst (Apart acc) s (apart k)) c)))
+              (embeds-length N [] [] (signedAll c w rest) (signedAll c w (d ∷ rest))
+              (rest-up acc d rest (subst (Apart acc) s (apart k)) c)))
 
       conjunction-made : 2 ≤ length list → made 0 (cs .count) ≡ rows i
       conjunction-made two =

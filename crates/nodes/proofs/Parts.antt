@@ -1,13 +1,12 @@
 -- Parts of buffers that are filled.
-use Prim.Native.Nat.{ℕ, zero, suc, _+_, _-_, _<_, _≤_}
-use mathlib.Core.Path.{_≡_, sym, ap, ap₂, subst, _∙_}
+use Prim.Native.Nat.{ℕ, zero, suc, _+_, _-_, _≤_}
+use mathlib.Core.Path.{_≡_, sym, ap, subst, _∙_}
 use mathlib.Core.Bool.{Bool, true}
 use mathlib.Core.List.{List, [], _∷_, _++_, append-assoc}
 use native.Mathlib.Omega.{arith}
 use native.Mathlib.Nat.{zero-add, suc-add}
-use native.Mathlib.Numerals.{add-one}
-use lib.ListN.{length, getD, take, drop, set, length-append, length-drop, take-append-drop}
-use lib.Seq.{take-suc-set, take-suc, getD-drop, length-take-le, take-at, drop-at, take-append-seam, drop-append-add}
+use lib.ListN.{length, take, drop, length-append, length-drop, take-append-drop}
+use lib.Seq.{length-take-le, take-at, drop-at, take-append-seam, drop-append-add}
 use lib.Seq.{take-take, drop-drop, take-nil}
 use Rattle.table.specs.declared.gates.Gate.{Gate}
 use Rattle.terms.specs.declared.Term.{Term}

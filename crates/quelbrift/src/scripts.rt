@@ -73,7 +73,8 @@ pub extern "C" fn quelbrift_walk<'a, 'b>(
     statuses: &'b mut [u32],
     compatibles: &'b mut [u32],
 ) -> Answer
-    ensures { λ r. ⌜ (r ≡ answerOf numbers (walkTable (now (weights .entry)) variables nodes (now (words .entry)) capacity (now (list .entry))
+    ensures { λ r. ⌜ (r ≡ answerOf numbers
+        (walkTable (now (weights .entry)) variables nodes (now (words .entry)) capacity (now (list .entry))
         (walkLent (lent (now (positives .entry)) (now (negatives .entry)) (now (counts .entry)))
         (now (statuses .entry)) (now (compatibles .entry))) .answer))
         × (walkLent (lent (now (positives .exit)) (now (negatives .exit)) (now (counts .exit)))

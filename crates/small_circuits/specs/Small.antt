@@ -123,7 +123,8 @@ small =
     ∷ circuit "(circuit 4)\n(pick 0 (pick 3 (true) (yes 2)) (no 2))\n"
     (accepts 10 (these (term 1 4 ∷ term 4 1 ∷ term 0 9 ∷ term 0 12 ∷ []) []) (these (term 5 0 ∷ term 8 5 ∷ []) []) [])
     -- P12: with 1,000 at variable 2 alone, one clearance and one blocker weigh nothing, and come first though they have no fewer marks;
-    -- the others weigh the same. Judged where 2 is false: with 3 false by -20 to -11 against -10; with 1 false by the same and 3 left unknown by -20 to -10
+    -- the others weigh the same. Judged where 2 is false: with 3 false by -20 to -11 against -10; with 1 false by the same and 3 left
+    -- unknown by -20 to -10
     ∷ circuit "(circuit 4)\n(pick 1 (pick 0 (pick 3 (true) (yes 2)) (no 2)) (both (no 2) (no 3)))\n"
     (accepts 7
     (weighing (0 ∷ 0 ∷ 1000 ∷ 0 ∷ []) (term 0 11 ∷ term 0 12 ∷ term 1 6 ∷ term 4 3 ∷ [])

@@ -14,7 +14,7 @@ use Rattle.masks.proofs.Tests.{or-r, or-cases, along}
 use Rattle.terms.specs.Lists.{keep, insert, sort, Rising}
 use Rattle.terms.specs.Order.{key, before}
 use Rattle.terms.specs.Prime.{prime, pairs, candidates, primes, Lists}
-use Rattle.terms.specs.Term.{term, has, variables, literals, IsTerm}
+use Rattle.terms.specs.Term.{term, has, variables, IsTerm}
 use Rattle.terms.specs.declared.Term.{Term}
 use Rattle.terms.proofs.Implicants.{prime-e, prime-i}
 use Rattle.terms.proofs.Sorted.{less-irrefl, less-trans, less-total, rising-unique, insert-rising, sort-rising, sort-out, sort-in}
@@ -74,9 +74,8 @@ module _ (m : List ℕ) (N : ℕ) where
   unfolding before key
   before-total t u h k p q =
       let e : key m t ≡ key m u = less-total (key m t) (key m u) refl p q in
-      let tails : literals t ∷ variables t ∷ t .positive ∷ [] ≡ literals u ∷ variables u ∷ u .positive ∷ [] = tail-eq-of-cons-eq e in
-      let v : variables t ≡ variables u = head-eq-of-cons-eq (tail-eq-of-cons-eq tails) in
-      let y : t .positive ≡ u .positive = head-eq-of-cons-eq (tail-eq-of-cons-eq (tail-eq-of-cons-eq tails)) in
+      let v : variables t ≡ variables u = head-eq-of-cons-eq (tail-eq-of-cons-eq (tail-eq-of-cons-eq e)) in
+      let y : t .positive ≡ u .positive = head-eq-of-cons-eq (tail-eq-of-cons-eq (tail-eq-of-cons-eq (tail-eq-of-cons-eq e))) in
       term-ext N t u h k (same-literals N t u h v y) (same-literals N u t k (sym v) (sym y))
 
   -- sorting loses no term and adds none

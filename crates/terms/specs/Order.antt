@@ -1,5 +1,5 @@
--- The order of terms, by the weights of the variables ("minutes"): entry x of the list m is the weight of variable x. With no weights, which
--- is the empty list, every term weighs nothing.
+-- The order of terms, by the weights of the variables ("minutes"): entry x of the list m is the weight of variable x. With no weights,
+-- which is the empty list, every term weighs nothing.
 use Prim.Native.Nat.{ℕ}
 use mathlib.Core.Bool.{Bool, cond}
 use mathlib.Core.List.{List, [], _∷_}

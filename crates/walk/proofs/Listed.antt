@@ -86,7 +86,8 @@ module _ (m : List ℕ) (N n : ℕ) (w : List ℕ) (R : ℕ) (b : Lent) (acc : c
         ∙ by s
       where
         by : (s : Bool)
-            → take (length rows) (drop (pred n * R) (bySign (filled m N n F R b .after .positives) (filled m N n F R b .after .negatives) s))
+            → take (length rows)
+            (drop (pred n * R) (bySign (filled m N n F R b .after .positives) (filled m N n F R b .after .negatives) s))
             ≡ masksOf s rows
         by true = masks-back m N F R n (pred n) true (drop (n * R) (b .positives)) fit last
         by false = masks-back m N F R n (pred n) false (drop (n * R) (b .negatives)) fit last

@@ -43,8 +43,10 @@ pub record WalkReady (h : Plan) (w : List ℕ) (b : Lent) (R k c : ℕ) : Type 0
   pub few : length (planPrimes weights h w) ≤ R
   pub rows : (h .nodes * R ≤ length (b .positives)) × (h .nodes * R ≤ length (b .negatives)) × (h .nodes ≤ length (b .counts))
   pub count : getD (b .counts) (pred (h .nodes)) 0 ≡ length (planPrimes weights h w)
-  pub positives : take (length (planPrimes weights h w)) (drop (pred (h .nodes) * R) (b .positives)) ≡ masksOf true (planPrimes weights h w)
-  pub negatives : take (length (planPrimes weights h w)) (drop (pred (h .nodes) * R) (b .negatives)) ≡ masksOf false (planPrimes weights h w)
+  pub positives : take (length (planPrimes weights h w)) (drop (pred (h .nodes) * R) (b .positives))
+      ≡ masksOf true (planPrimes weights h w)
+  pub negatives : take (length (planPrimes weights h w)) (drop (pred (h .nodes) * R) (b .negatives))
+      ≡ masksOf false (planPrimes weights h w)
 
 -- ss and cs are the entries of the first k steps
 pub record Judged (h : Plan) (w : List ℕ) (k : ℕ) (ss cs : List ℕ) : Type 0 where

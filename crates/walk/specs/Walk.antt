@@ -1,5 +1,5 @@
--- The walk of a loading script through a circuit: N variables with the weights m, n nodes, the table w, the steps es. The prime implicants of
--- every node are listed first. Then each prefix of the steps is judged by itself.
+-- The walk of a loading script through a circuit: N variables with the weights m, n nodes, the table w, the steps es. The prime implicants
+-- of every node are listed first. Then each prefix of the steps is judged by itself.
 use Prim.Native.Nat.{ℕ, suc}
 use mathlib.Core.Bool.{Bool, true, _&&_, _||_, not, cond}
 use mathlib.Core.List.{List, [], _∷_, _++_, map}

@@ -1,4 +1,4 @@
--- `buffers::copy` meets its contract. The loop's invariant: the first i entries are those from `at` on.
+-- `buffers::copy` meets its contract. The loop's invariant: the first j entries are those from `at` on.
 use Prim.Native.Nat.{ℕ, _-_, _≤_}
 use mathlib.Core.Path.{_≡_, sym, ap, _∙_}
 use native.Mathlib.Omega.{arith}
@@ -9,10 +9,10 @@ use Rattle.buffers.proofs.copy.Statement.{statement}
 use Rattle.buffers.proofs.copy.Tie as tie
 
 abbrev Inv-loop : tie.InvT-loop
-Inv-loop to₀ from at count i₀ to i = (i ≤ count) × (take i to ≡ take i (drop at from)) × (length to ≡ length to₀)
+Inv-loop to₀ from at count j₀ to j = (j ≤ count) × (take j to ≡ take j (drop at from)) × (length to ≡ length to₀)
 
 abbrev μ-loop : tie.MeasureT-loop
-μ-loop to₀ from at count i₀ to i = count - i
+μ-loop to₀ from at count j₀ to j = count - j
 
 loop-holds : tie.Need-loop-holds Inv-loop μ-loop
 loop-holds c = search needs
@@ -32,8 +32,8 @@ mul-to-2 c = search needs
 slice-write-to : tie.Need-slice-write-to Inv-loop μ-loop
 slice-write-to c = search needs
 
-add-i : tie.Need-add-i Inv-loop μ-loop
-add-i c = search needs
+add-j : tie.Need-add-j Inv-loop μ-loop
+add-j c = search needs
 
 loop-less : tie.Need-loop-less Inv-loop μ-loop
 loop-less c = search needs
@@ -42,7 +42,7 @@ loop-again : tie.Need-loop-again Inv-loop μ-loop
 loop-again c =
     let l = c .before .before .loop in
     let x = c .before .before .before .args in
-    (omega arith, copy-more (l .i) (x .at) (l .to) (x .from .now) (omega arith) (omega arith) (l .inv .1), simp length-set (l .inv .2))
+    (omega arith, copy-more (l .j) (x .at) (l .to) (x .from .now) (omega arith) (omega arith) (l .inv .1), simp length-set (l .inv .2))
 
 same-length : tie.Need-same-length Inv-loop μ-loop
 same-length c = search needs
@@ -51,7 +51,7 @@ returns : tie.Need-returns Inv-loop μ-loop
 returns c =
     let l = c .before .loop in
     let x = c .before .before .args in
-    let e : l .i ≡ x .count = omega arith in
+    let e : l .j ≡ x .count = omega arith in
     ap (λ (n : ℕ). take n (l .to)) (sym e) ∙ l .inv .1 ∙ ap (λ (n : ℕ). take n (drop (x .at) (x .from .now))) e
 
 pub copy-spec : {M : Type 1} → statement M
@@ -66,7 +66,7 @@ copy-spec =
     shared-slice-read-to
     mul-to-2
     slice-write-to
-    add-i
+    add-j
     loop-less
     loop-again
     same-length

@@ -30,7 +30,8 @@ use Rattle.listing.proofs.fill_nodes.Tie as tie
 
 abbrev Inv-loop : tie.InvT-loop
 Inv-loop ps₀ ns₀ cs₀ ap₀ an₀ bp₀ bn₀ words shape i₀ ps ns cs ap an bp bn i =
-    (i ≤ shape .nodes) × State [] (shape .variables) (signedFunction (shape .sign) words) (shape .capacity) (shape .nodes) i (bySign ps ns) cs
+    (i ≤ shape .nodes)
+    × State [] (shape .variables) (signedFunction (shape .sign) words) (shape .capacity) (shape .nodes) i (bySign ps ns) cs
     × ((length ap ≡ length ap₀) × (length an ≡ length an₀) × (length bp ≡ length bp₀) × (length bn ≡ length bn₀))
 
 abbrev μ-loop : tie.MeasureT-loop

@@ -71,8 +71,8 @@ returns c =
     let h = c .before in
     let s = start h in
     let x = s .args in
-    lists-short (x .shape .sign) (x .weights .now) (x .shape .variables) (x .shape .nodes) (x .words .now) (x .shape .capacity) (buffers s) (s .pre)
-    (tested h true (c .if1 .taken))
+    lists-short (x .shape .sign) (x .weights .now) (x .shape .variables) (x .shape .nodes) (x .words .now) (x .shape .capacity)
+    (buffers s) (s .pre) (tested h true (c .if1 .taken))
 
 fit-requires : tie.Need-fit-requires
 fit-requires c κs = search needs
@@ -92,8 +92,8 @@ returns-2 c =
     let h = q .before .before in
     let s = start h in
     let x = s .args in
-    lists-unweighed (x .shape .sign) (x .weights .now) (x .shape .variables) (x .shape .nodes) (x .words .now) (x .shape .capacity) (buffers s) (s .pre)
-    (tested h false (q .before .if1 .left)) (weighed q true (c .if2 .taken))
+    lists-unweighed (x .shape .sign) (x .weights .now) (x .shape .variables) (x .shape .nodes) (x .words .now) (x .shape .capacity)
+    (buffers s) (s .pre) (tested h false (q .before .if1 .left)) (weighed q true (c .if2 .taken))
 
 mul-total : tie.Need-mul-total
 mul-total c =
@@ -155,8 +155,9 @@ returns-3 c =
     let s = first e in
     let x = s .args in
     let l = p .list-exact .last in
-    lists-all (x .shape .sign) (x .weights .now) (x .shape .variables) (x .shape .nodes) (x .words .now) (x .shape .capacity) (buffers s) (s .pre)
-    (is-enough e) (fits e) (bySign (l .0) (l .1 .0)) (l .1 .1 .0) (p .list-exact .result) (p .list-exact .ensures) (c .if3 .taken)
+    lists-all (x .shape .sign) (x .weights .now) (x .shape .variables) (x .shape .nodes) (x .words .now) (x .shape .capacity)
+    (buffers s) (s .pre) (is-enough e) (fits e) (bySign (l .0) (l .1 .0)) (l .1 .1 .0) (p .list-exact .result) (p .list-exact .ensures)
+    (c .if3 .taken)
 
 same-length-10 : tie.Need-same-length-10
 same-length-10 c = search needs
@@ -174,8 +175,9 @@ returns-4 c =
     let s = first e in
     let x = s .args in
     let l = p .list-exact .last in
-    lists-lack (x .shape .sign) (x .weights .now) (x .shape .variables) (x .shape .nodes) (x .words .now) (x .shape .capacity) (buffers s) (s .pre)
-    (is-enough e) (fits e) (bySign (l .0) (l .1 .0)) (l .1 .1 .0) (p .list-exact .result) (p .list-exact .ensures) (c .if3 .left)
+    lists-lack (x .shape .sign) (x .weights .now) (x .shape .variables) (x .shape .nodes) (x .words .now) (x .shape .capacity)
+    (buffers s) (s .pre) (is-enough e) (fits e) (bySign (l .0) (l .1 .0)) (l .1 .1 .0) (p .list-exact .result) (p .list-exact .ensures)
+    (c .if3 .left)
 
 pub list-accepted-spec : {M : Type 1} → statement M
 list-accepted-spec =

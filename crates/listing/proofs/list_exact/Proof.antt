@@ -108,8 +108,9 @@ returns-2 c =
     let p : length (f .fill-all .last .0) ≡ h .nodes * h .capacity = f .fill-all .kept .0 ∙ k .clear .kept .0 ∙ s .pre .1 .0 in
     let q : length (f .fill-all .last .1 .0) ≡ h .nodes * h .capacity = f .fill-all .kept .1 .0 ∙ k .clear .kept .1 .0 ∙ s .pre .1 .1 in
     let m : length (f .fill-all .last .1 .1 .0) ≡ h .nodes = f .fill-all .kept .1 .1 .0 ∙ k .clear .kept .1 .1 .0 ∙ s .pre .0 .2 in
-    exact-none (x .weights .now) (h .variables) (h .nodes) (listed s) (h .capacity) (buffers f) (f .fill-all .last .1 .1 .0) (f .fill-all .result)
-    (f .fill-all .ensures) (bySign (z .clear2 .last .0) (z .clear2 .last .1 .0)) (z .clear2 .last .1 .1 .0) (e .if1 .left)
+    exact-none (x .weights .now) (h .variables) (h .nodes) (listed s) (h .capacity) (buffers f) (f .fill-all .last .1 .1 .0)
+    (f .fill-all .result) (f .fill-all .ensures) (bySign (z .clear2 .last .0) (z .clear2 .last .1 .0)) (z .clear2 .last .1 .1 .0)
+    (e .if1 .left)
     (λ b. elim b [
       | true ↦ zeros-of (h .nodes * h .capacity) (z .clear2 .last .0) (f .fill-all .last .0) (d .0) p
       | false ↦ zeros-of (h .nodes * h .capacity) (z .clear2 .last .1 .0) (f .fill-all .last .1 .0) (d .1) q

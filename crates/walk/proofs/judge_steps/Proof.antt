@@ -119,8 +119,9 @@ counted d =
     let p = d .before .before in
     let a = turn (entered p) in
     let s = start a in
-    listed-compatible (s .pre .weights) (N a) (f a) (s .args .positives .now) (s .args .negatives .now) (s .pre .positives) (s .pre .negatives) (next p)
-    (d .count-compatible .ensures)
+    listed-compatible (s .pre .weights) (N a) (f a) (s .args .positives .now) (s .args .negatives .now) (s .pre .positives)
+    (s .pre .negatives)
+    (next p) (d .count-compatible .ensures)
 
 loop-holds : tie.Need-loop-holds Inv-loop μ-loop
 loop-holds c =

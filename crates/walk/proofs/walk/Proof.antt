@@ -88,8 +88,8 @@ returns-3 c =
     let p = r .before .before in
     let s = first p in
     let x = s .args in
-    walks-variable (x .weights .now) (x .variables) (x .nodes) (x .words .now) (x .capacity) (steps s) (buffers s) (table p) (r .i2 .given .0 .0)
-    (sym (ap stepsOutcome (r .i2 .given .1)) ∙ p .check-steps .ensures)
+    walks-variable (x .weights .now) (x .variables) (x .nodes) (x .words .now) (x .capacity) (steps s) (buffers s) (table p)
+    (r .i2 .given .0 .0) (sym (ap stepsOutcome (r .i2 .given .1)) ∙ p .check-steps .ensures)
 
 same-length : tie.Need-same-length
 same-length c = search needs

@@ -48,8 +48,8 @@ returns : tie.Need-returns
 returns c =
     let s = start (c .before) in
     let x = s .args in
-    walks-short (x .weights .now) (x .plan .variables) (x .plan .nodes) (x .words .now) (x .capacity) (steps s) (buffers s) (s .pre .0) (s .pre .1)
-    (tested s true (c .if1 .taken))
+    walks-short (x .weights .now) (x .plan .variables) (x .plan .nodes) (x .words .now) (x .capacity) (steps s) (buffers s) (s .pre .0)
+    (s .pre .1) (tested s true (c .if1 .taken))
 
 -- ---- after the listing
 module _ (p : tie.After-list-accepted) where
@@ -91,11 +91,13 @@ done e = e .before .before .before .before .before .before .before .before
 listed : (e : tie.After-enum-told)
     → let p = done e in
     let x = first p .args in
-    ListResult true (x .weights .now) (x .plan .variables) (x .plan .nodes) (x .words .now) (x .capacity) (rows (first p)) (listing p) Listed
+    ListResult true (x .weights .now) (x .plan .variables) (x .plan .nodes) (x .words .now) (x .capacity) (rows (first p)) (listing p)
+    Listed
 listed e =
     let p = done e in
     let x = first p .args in
-    subst (ListResult true (x .weights .now) (x .plan .variables) (x .plan .nodes) (x .words .now) (x .capacity) (rows (first p)) (listing p))
+    subst
+    (ListResult true (x .weights .now) (x .plan .variables) (x .plan .nodes) (x .words .now) (x .capacity) (rows (first p)) (listing p))
     (e .enum-told .given .1) (p .list-accepted .ensures)
 
 slice-relend-prefix-walk-listed : tie.Need-slice-relend-prefix-walk-listed
@@ -137,8 +139,8 @@ returns-2 c =
     let p = r .before .before .before .before .before .before .before .before in
     let s = first p in
     let x = s .args in
-    walks-lack (x .weights .now) (x .plan .variables) (x .plan .nodes) (x .words .now) (x .capacity) (steps s) (buffers s) (s .pre .0) (s .pre .1) (fits p)
-    (listing p) (p .list-accepted .result) (p .list-accepted .ensures) (r .why .given .0 .0) (r .why .given .1)
+    walks-lack (x .weights .now) (x .plan .variables) (x .plan .nodes) (x .words .now) (x .capacity) (steps s) (buffers s) (s .pre .0)
+    (s .pre .1) (fits p) (listing p) (p .list-accepted .result) (p .list-accepted .ensures) (r .why .given .0 .0) (r .why .given .1)
 
 same-length-4 : tie.Need-same-length-4
 same-length-4 c = search needs
@@ -169,8 +171,9 @@ returns-3 c =
     λ g l d. d ∙ ap (λ (j : ℕ). afterEach N g (stepsIn (x .plan .columns) j)) (statuses-size p) in
     let ss = all (status N f) (q .walk-listed .last .0) (q .walk-listed .ensures .1 .statuses) in
     let cs = all (compatible N f) (q .walk-listed .last .1 .0) (q .walk-listed .ensures .1 .compatibles) in
-    walks-all (x .weights .now) N (x .plan .nodes) (x .words .now) (x .capacity) (steps s) (buffers s) (s .pre .0) (s .pre .1) (fits p) (listing p) Listed
-    (listed e) refl _ _ (q .walk-listed .result) (q .walk-listed .ensures .0 ∙ ap (λ (l : List ℕ). answered (settled l)) ss)
+    walks-all (x .weights .now) N (x .plan .nodes) (x .words .now) (x .capacity) (steps s) (buffers s) (s .pre .0) (s .pre .1)
+    (fits p) (listing p) Listed (listed e) refl _ _ (q .walk-listed .result)
+    (q .walk-listed .ensures .0 ∙ ap (λ (l : List ℕ). answered (settled l)) ss)
     (ap₂ (λ (l : List ℕ) (m : ℕ). l ++ drop m (x .statuses .now)) ss (sym (count s)))
     (ap₂ (λ (l : List ℕ) (m : ℕ). l ++ drop m (x .compatibles .now)) cs (sym (count s)))
 

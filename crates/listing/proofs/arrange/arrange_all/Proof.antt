@@ -34,7 +34,9 @@ returns-2 : tie.Need-returns-2
 returns-2 c = search needs
 
 returns-3 : tie.Need-returns-3
-returns-3 c = λ F h. holds-none (none-weighs (c .before .before .before .before .before .before .args .weights .now) (sym (c .before .any-weight .ensures) ∙ c .if1 .left)) h
+returns-3 c =
+    let m = c .before .before .before .before .before .before .args .weights .now in
+    λ F h. holds-none (none-weighs m (sym (c .before .any-weight .ensures) ∙ c .if1 .left)) h
 
 pub arrange-all-spec : {M : Type 1} → statement M
 arrange-all-spec =

@@ -22,7 +22,7 @@ use Rattle.weighing.specs.Sums.{Sums}
 use Rattle.weighing.proofs.Sums.{summed-weight}
 use Rattle.weighing.proofs.Weights.{weight-most, fitting-length, fitting-most}
 use Rattle.arranging.specs.Arranged.{Light, Weighs, Arrangeable}
-use Rattle.listing.specs.Exact.{Holds, Unarranged}
+use Rattle.listing.specs.Exact.{Holds}
 use Rattle.listing.proofs.Arranged.{ArrangedTo, arranged-start, arranged-end, arranged-length, arranged-more}
 use Rattle.listing.proofs.Arranged.{whole, all-counted, counted, own-short, own-arrangeable}
 use Rattle.listing.proofs.arrange.arrange_nodes.Statement.{statement}
@@ -84,7 +84,8 @@ module _ (a : Loop) where
   light t = omega (arith, weighs t, weight-most (m start) (bounded start) (few start) t)
 
   sizes : (b : Bool) → length (now b) ≡ n start * R start
-  sizes b = arranged-length (m start) (holds start) (a .loop .i) now (a .loop .inv .0) (a .loop .inv .2 (start .pre .0 .listed) (holds start)) b
+  sizes b =
+      arranged-length (m start) (holds start) (a .loop .i) now (a .loop .inv .0) (a .loop .inv .2 (start .pre .0 .listed) (holds start)) b
 
   module _ (lt : a .loop .i < n start) where
     abbrev at : ℕ
@@ -95,12 +96,15 @@ module _ (a : Loop) where
 
     -- the node's part ends where the next begins, and its terms are in it
     ends : at + R start ≤ n start * R start
-    ends = let k : suc (a .loop .i) * R start ≤ n start * R start = mul-le-mul-right (R start) lt in omega (arith, suc-mul (a .loop .i) (R start))
+    ends =
+        let k : suc (a .loop .i) * R start ≤ n start * R start = mul-le-mul-right (R start) lt in
+        omega (arith, suc-mul (a .loop .i) (R start))
 
     fits : count ≤ R start
     fits = le-trans (le-of-eq (counted (m start) (holds start) (a .loop .i) lt)) (holds start .fits (a .loop .i) lt)
 
-turned : (c : tie.After-shared-slice-known3 Inv-loop μ-loop) → c .before .before .before .before .loop .i < n (start (c .before .before .before .before))
+turned : (c : tie.After-shared-slice-known3 Inv-loop μ-loop)
+    → c .before .before .before .before .loop .i < n (start (c .before .before .before .before))
 turned c = omega arith
 
 -- the read of the count before a call
@@ -158,7 +162,9 @@ part-arrange-start-2 : tie.Need-part-arrange-start-2 Inv-loop μ-loop
 part-arrange-start-2 c = search needs
 
 part-arrange-end-2 : tie.Need-part-arrange-end-2 Inv-loop μ-loop
-part-arrange-end-2 c = let a = c .before .before .before .before .before in omega (arith, ends a (turned (c .before)), fits a (turned (c .before)), sizes a false)
+part-arrange-end-2 c =
+    let a = c .before .before .before .before .before in
+    omega (arith, ends a (turned (c .before)), fits a (turned (c .before)), sizes a false)
 
 slice-aggregate-arrange : tie.Need-slice-aggregate-arrange Inv-loop μ-loop
 slice-aggregate-arrange c = search needs
@@ -172,7 +178,8 @@ arrange-requires c κs =
     let st = a .loop .inv .2 F (holds s) in
     let e : at a lt + count a lt - at a lt ≡ count a lt = omega arith in
     let short : (b : Bool) → length (take (at a lt + count a lt - at a lt) (drop (at a lt) (now a b))) ≤ R s =
-    λ b. subst (λ (k : ℕ). length (take k (drop (at a lt) (now a b))) ≤ R s) (sym e) (own-short (m s) (holds s) (a .loop .i) (now a) lt st b) in (
+    λ b. subst (λ (k : ℕ). length (take k (drop (at a lt) (now a b))) ≤ R s) (sym e)
+    (own-short (m s) (holds s) (a .loop .i) (now a) lt st b) in (
       (
         subst (λ (k : ℕ). Arrangeable (take k (drop (at a lt) (now a true))) (take k (drop (at a lt) (now a false)))) (sym e)
             (own-arrangeable (m s) (holds s) (a .loop .i) (now a) lt st (s .pre .0 .small)),
@@ -195,7 +202,7 @@ loop-less c = search needs
 loop-again : tie.Need-loop-again Inv-loop μ-loop
 loop-again c =
     let p = c .before .before .before .before .before .before .before .before .before .before in
-    let a = c .before .before .before .before .before .before .before .before .before .before .before .before .before .before .before .before .before .before .before .before .before in
+    let a = p .before .before .before .before .before .before .before .before .before .before .before in
     let s = start a in
     let lt : a .loop .i < n s = turned (a-known p) in
     let k : ℕ = at a lt + count a lt - at a lt in
@@ -208,8 +215,10 @@ loop-again c =
     ++ (masksOf b (sort (before (m s)) (termsOf (take k (drop (at a lt) (now a true))) (take k (drop (at a lt) (now a false)))))
     ++ drop k (drop (at a lt) (now a b))) =
     λ b. elim b [
-      | true ↦ ap (λ (z : List ℕ). take (at a lt) (now a true) ++ (z ++ drop k (drop (at a lt) (now a true)))) (p .arrange .ensures (m s) (weighs a) true)
-      | false ↦ ap (λ (z : List ℕ). take (at a lt) (now a false) ++ (z ++ drop k (drop (at a lt) (now a false)))) (p .arrange .ensures (m s) (weighs a) false)
+      | true ↦ ap (λ (z : List ℕ). take (at a lt) (now a true) ++ (z ++ drop k (drop (at a lt) (now a true))))
+          (p .arrange .ensures (m s) (weighs a) true)
+      | false ↦ ap (λ (z : List ℕ). take (at a lt) (now a false) ++ (z ++ drop k (drop (at a lt) (now a false))))
+          (p .arrange .ensures (m s) (weighs a) false)
     ] in (
       omega (arith, lt),
       a .loop .inv .1,

@@ -247,7 +247,8 @@ module _ {M : Type 1} (𝓤 : URA M) (H : Heap 𝓤) (A : Atoms 𝓤) (W : Given
 
   module _ (C : Calls 𝓤 H) (Λ : Loops 𝓤 H) (fm : FmC 𝓤 H (W .laws) C) (known : Known 𝓤 H A mem run C) where
     walk : Room u32 (length (now w)) → N < 2 ^ 32 → n < 2 ^ 32 → Room u32 (length (now g)) → R < 2 ^ 32 → Room T.the-row k
-        → Room u64 (length (now p)) → Room u64 (length (now m)) → Room u32 (length (now c)) → Room u32 (length (now s)) → Room u32 (length (now d))
+        → Room u64 (length (now p)) → Room u64 (length (now m)) → Room u32 (length (now c)) → Room u32 (length (now s))
+        → Room u32 (length (now d))
         → ent 𝓤 (onEntry 𝓤 H A f.signature κs (q, (q′, tt)) args at)
         (WpFn 𝓤 H C Λ code.function (Walking .args bound) (Walking .post bound))
     walk room-w N-fits n-fits room-g R-fits room-x room-p room-m room-c room-s room-d =
@@ -259,7 +260,8 @@ module _ {M : Type 1} (𝓤 : URA M) (H : Heap 𝓤) (A : Atoms 𝓤) (W : Given
         -- [what `columns_of` asks; what is handed to `walk`]
         enter ! C Λ code.function (Walking .args bound) _ $ allocates ! (λ bs. params1 ! $
         pass1 ! (init ! 46 refl (sliced (room-w .0))) $ pass1 ! (init ! 44 refl (tt, record { fits = N-fits })) $
-        pass1 ! (init ! 42 refl (tt, record { fits = n-fits })) $ pass1 ! (init ! 40 refl (sliced (room-g .0))) $ pass1 ! (init ! 38 refl (tt, record { fits = R-fits })) $
+        pass1 ! (init ! 42 refl (tt, record { fits = n-fits })) $ pass1 ! (init ! 40 refl (sliced (room-g .0))) $
+        pass1 ! (init ! 38 refl (tt, record { fits = R-fits })) $
         pass1 ! (init ! 36 refl (sliced (room-x .0))) $ pass1 ! (init ! 34 refl (sliced (room-p .0))) $
         pass1 ! (init ! 32 refl (sliced (room-m .0))) $ pass1 ! (init ! 30 refl (sliced (room-c .0))) $
         pass1 ! (init ! 28 refl (sliced (room-s .0))) $ pass1 ! (init ! 26 refl (sliced (room-d .0))) $ pass0 ! $
@@ -309,8 +311,8 @@ module _ {M : Type 1} (𝓤 : URA M) (H : Heap 𝓤) (A : Atoms 𝓤) (W : Given
       let (w, (N, (n, (g, (R, (x, (p, (m, (c, (s, (d, _))))))))))) = a in
       let (is-w, (is-N, (is-n, (is-g, (is-R, (is-x, (is-p, (is-m, (is-c, (is-s, (is-d, _))))))))))) = are in
       via 𝓤 _ (fst∗ 𝓤 _ (emp 𝓤)) (walk 𝓤 H A W mem run (κs .0) (κs .1 .0) (qs .0) (qs .1 .0) w N n g R x p m c s d (𝓣 .C) (𝓣 .Λ)
-      (fmOf 𝓤 H (W .laws) 𝓣) known (is-w .0 .1) (is-N .1) (is-n .1) (is-g .0 .1) (is-R .1) (is-x .0 .1) (is-p .0 .1) (is-m .0 .1) (is-c .0 .1)
-      (is-s .0 .1) (is-d .0 .1)))
+      (fmOf 𝓤 H (W .laws) 𝓣) known (is-w .0 .1) (is-N .1) (is-n .1) (is-g .0 .1) (is-R .1) (is-x .0 .1) (is-p .0 .1) (is-m .0 .1)
+      (is-c .0 .1) (is-s .0 .1) (is-d .0 .1)))
 
   meets : Meets 𝓤 H A f.signature (WpFn 𝓤 H (𝓣 .C) (𝓣 .Λ) code.function) (f.spec 𝓤 H A mem run)
   meets =

@@ -7,7 +7,7 @@ ghost use Rattle.clearances.specs.Reading.{programAnswer};
 use console::input::Input;
 use console::tell;
 use console::write;
-use listing::Listing;
+use filtered::FilteredListing;
 use output::refusals::fault_line;
 use output::refusals::table_refusal_line;
 use table::MAX_VARIABLES;
@@ -27,6 +27,9 @@ const NODES: usize = 64;
 const CAPACITY: u32 = 64;
 
 const ENTRIES: usize = 4096;
+
+// How many entries the shown list has, which the program does not print: with no pairs it is the last node's.
+const ROWS: usize = CAPACITY as usize;
 
 // How many variables a circuit has at most.
 const VARIABLES: usize = MAX_VARIABLES as usize;
@@ -93,24 +96,30 @@ fn front(entries: &[u32], count: u32) -> &[u32]
     entries
 }
 
-// Lists the circuit, every variable weighing nothing, and prints its terms, or the refusal.
+// Lists the circuit, every variable weighing nothing and no two excluding each other, and prints its terms, or the refusal.
 fn print_circuit(words: &[u32], variables: u32, nodes: u32) -> bool {
     let mut positives = [0u64; ENTRIES];
     let mut negatives = [0u64; ENTRIES];
     let mut counts = [0u32; NODES];
+    let mut shown_positives = [0u64; ROWS];
+    let mut shown_negatives = [0u64; ROWS];
     let zeros = [0u32; VARIABLES];
-    match listing::list(
+    match filtered::list(
         &mut positives,
         &mut negatives,
         &mut counts,
+        &mut shown_positives,
+        &mut shown_negatives,
         words,
         front(&zeros, variables),
+        front(&zeros, 0),
+        front(&zeros, 0),
         variables,
         nodes,
         CAPACITY,
     ) {
-        Listing::Refused(why) => print_refusal(why),
-        Listing::Listed => print_last(&positives, &negatives, &counts, nodes),
+        FilteredListing::Refused(why) => print_refusal(why),
+        FilteredListing::Listed(_) => print_last(&positives, &negatives, &counts, nodes),
     }
 }
 

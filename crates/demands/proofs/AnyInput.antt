@@ -14,6 +14,8 @@ use Rattle.checks.specs.Arguments.{checkAssignment, checkTerm}
 use Rattle.queries.specs.Queries.{circuit, evaluation, modelCount, implicantTest, primeTest, assignmentTerm, reduction}
 use Rattle.demands.specs.Demands.{At, Answers, tableRefusals, AnyInput}
 use Rattle.demands.proofs.Answers.{answers-test, check-answers, question-answers, tested-answers}
+use Rattle.demands.proofs.Filtering.{filter-answers, filter-unweighed, filter-weighed, filter-unpaired, filter-paired, filter-kept}
+use Rattle.demands.proofs.Filtering.{filter-zeroed, filter-nodes, filter-rest}
 use Rattle.demands.proofs.Listing.{list-answers, list-unweighed, list-weighed, list-kept, list-zeroed, list-rest}
 use Rattle.demands.proofs.Listing.{view-part, view-none}
 use Rattle.demands.proofs.Partial.{partial-answers}
@@ -53,6 +55,15 @@ any-input =
       list-refused = list-kept;
       list-lack = list-zeroed;
       list-past = list-rest;
+      filter = filter-answers;
+      filter-unweighed = filter-unweighed;
+      filter-weighed = filter-weighed;
+      filter-unpaired = filter-unpaired;
+      filter-paired = filter-paired;
+      filter-refused = filter-kept;
+      filter-lack = filter-zeroed;
+      filter-nodes = filter-nodes;
+      filter-past = filter-rest;
       view = view-part;
       view-empty = view-none;
       line = line-answers;

@@ -1,9 +1,11 @@
 pub mod Answers
+pub mod Tests
 pub mod Partial
 pub mod Reading
 pub mod Scripts
 pub mod Writing
 pub mod Listing
+pub mod Filtering
 pub mod Walking
 pub mod Walked
 pub mod Unread

@@ -11,8 +11,7 @@ use lib.ListN.{length, take, drop}
 use lib.Seq.{drop-at}
 use Rattle.masks.proofs.Tests.{and-i, and-l, and-r, is-true, is-false, along}
 use Rattle.table.specs.Node.{maxNodes}
-use Rattle.table.specs.Outcome.{accepted, Outcome, answered, refused}
-use Rattle.text.proofs.Readers.{value-not, same-number}
+use Rattle.table.specs.Outcome.{accepted, answered, refused}
 use Rattle.weighing.specs.Weights.{fitting}
 use Rattle.weighing.proofs.Weights.{fitting-i, fitting-length, fitting-most}
 use Rattle.circuits.specs.Check.{check}
@@ -20,12 +19,13 @@ use Rattle.circuits.specs.Function.{signedFunction}
 use Rattle.circuits.proofs.Accepted.{accepted-e}
 use Rattle.circuits.proofs.Largest.{no-more}
 use Rattle.lists.specs.Capacity.{maxCapacity}
-use Rattle.listing.specs.Listing.{nodePrimes, listedMasks, listedCounts, suffices, exceeds, untouched, cleared, filled, listChecked}
+use Rattle.listing.specs.Listing.{nodePrimes, listedMasks, listedCounts, suffices, exceeds, cleared, filled}
 use Rattle.listing.specs.Listing.{listTable, viewed, Lent, ListOut}
 use Rattle.listing.proofs.Answers.{out-is}
 use Rattle.listing.proofs.Table.{Fit, length-listed, length-counts}
-use Rattle.demands.specs.Demands.{At, Refusals, Answers, tableRefusals, Room, Weights}
-use Rattle.demands.proofs.Answers.{among-left, answers-right, check-answers, among-other}
+use Rattle.demands.specs.Demands.{At, Answers, tableRefusals, Room, Weights}
+use Rattle.demands.proofs.Tests.{guarded-answers, guarded-kept, guarded-done, guarded-refused, guarded-unless}
+use Rattle.demands.proofs.Tests.{lack-answers, lack-only, lack-full, done-fits}
 
 -- room and weights, as tests
 pub room-suffices : {N n : ℕ} {w : List ℕ} {R : ℕ} {b : Lent} → Room N n w R b → suffices n R b ≡ true
@@ -42,7 +42,7 @@ module _ (N : ℕ) (m : List ℕ) where
   pub fits-weights : Weights N m → fitting N m ≡ true
   fits-weights k = fitting-i N m (k .number) (λ x l. k .most x (subst (λ (z : ℕ). x < z) (k .number) l))
 
-  unfit-weights : (Weights N m → ⊥) → fitting N m ≡ false
+  pub unfit-weights : (Weights N m → ⊥) → fitting N m ≡ false
   unfit-weights none =
       is-false (fitting N m)
       (not-T (fitting N m)
@@ -54,18 +54,15 @@ module _ (c : Bool) (m : List ℕ) (N n : ℕ) (w : List ℕ) (R : ℕ) (b : Len
   abbrev F : ℕ → ℕ → Bool
   F = signedFunction c w
 
-  abbrev listRefusals : Refusals
-  listRefusals = (41, At 0) ∷ (56, At 0) ∷ (42, At 0) ∷ []
+  abbrev tests : List (Bool × ℕ)
+  tests = (suffices n R b, 41) ∷ (fitting N m, 56) ∷ []
 
-  -- the cases of an accepted table
-  abbrev byRoom : Bool → Bool → Bool → ListOut
-  byRoom x y z = cond x (cond y (cond z (cleared n R b) (filled m N n F R b)) (untouched 56 0 b)) (untouched 41 0 b)
+  -- by whether there are more terms than the capacity
+  abbrev lists : Bool → ListOut
+  lists z = cond z (cleared n R b) (filled m N n F R b)
 
-  abbrev Kept : ListOut → Type 0
-  Kept o = o .after ≡ b
-
-  abbrev Zeroed : ListOut → Type 0
-  Zeroed o = o .after ≡ cleared n R b .after
+  abbrev over : Bool
+  over = exceeds m N n F R
 
   abbrev KeptPast : ListOut → Type 0
   KeptPast o =
@@ -73,33 +70,8 @@ module _ (c : Bool) (m : List ℕ) (N n : ℕ) (w : List ℕ) (R : ℕ) (b : Len
       × (drop (n * R) (o .after .negatives) ≡ drop (n * R) (b .negatives))
       × (drop n (o .after .counts) ≡ drop n (b .counts))
 
-  room-answers : (x y z : Bool) → Answers listRefusals (byRoom x y z .answer)
-  room-answers true true true = inr (inr (inl (refl, refl)))
-  room-answers true true false = tt
-  room-answers true false z = inr (inl (refl, refl))
-  room-answers false y z = inl (refl, refl)
-
-  room-kept : (x y z : Bool) (k p : ℕ) → byRoom x y z .answer ≡ refused k p → k ≢ 42 → Kept (byRoom x y z)
-  room-kept true true true k p h other = absurd (other (sym (same-number 42 0 k p h .0)))
-  room-kept true true false k p h other = absurd (value-not tt k p h)
-  room-kept true false z k p h other = refl
-  room-kept false y z k p h other = refl
-
-  room-lack : (x y z : Bool) (p : ℕ) → byRoom x y z .answer ≡ refused 42 p → Zeroed (byRoom x y z)
-  room-lack true true true p h = refl
-  room-lack true true false p h = absurd (value-not tt 42 p h)
-  room-lack true false z p h = let e : _≡_ {A = ℕ} 56 42 = same-number 56 0 42 p h .0 in absurd (omega arith)
-  room-lack false y z p h = let e : _≡_ {A = ℕ} 41 42 = same-number 41 0 42 p h .0 in absurd (omega arith)
-
-  -- 56 only where the weights do not fit
-  room-weighed : (x y z : Bool) (p : ℕ) → byRoom x y z .answer ≡ refused 56 p → y ≡ false
-  room-weighed true true true p h = let e : _≡_ {A = ℕ} 42 56 = same-number 42 0 56 p h .0 in absurd (omega arith)
-  room-weighed true true false p h = absurd (value-not tt 56 p h)
-  room-weighed true false z p h = refl
-  room-weighed false y z p h = let e : _≡_ {A = ℕ} 41 56 = same-number 41 0 56 p h .0 in absurd (omega arith)
-
   -- the listed parts fill the first n × R entries
-  filled-past : check N n w ≡ accepted → exceeds m N n F R ≡ false → KeptPast (filled m N n F R b)
+  filled-past : check N n w ≡ accepted → over ≡ false → KeptPast (filled m N n F R b)
   unfolding exceeds
   filled-past acc e =
       let last : length (nodePrimes m N F (pred n)) ≤ R =
@@ -110,59 +82,35 @@ module _ (c : Bool) (m : List ℕ) (N n : ℕ) (w : List ℕ) (R : ℕ) (b : Len
         drop-at (listedCounts m N n F) (drop n (b .counts)) n (length-counts m N F R n),
       )
 
-  room-past : check N n w ≡ accepted → (x y z : Bool) → exceeds m N n F R ≡ z → byRoom x y z .answer ≡ answered tt
-      → KeptPast (byRoom x y z)
-  room-past acc true true true e h = absurd (value-not tt 42 0 (sym h))
-  room-past acc true true false e h = filled-past acc e
-  room-past acc true false z e h = absurd (value-not tt 56 0 (sym h))
-  room-past acc false y z e h = absurd (value-not tt 41 0 (sym h))
-
-  -- ---- by the answer of the check
-  abbrev byCheck : Outcome (Unit {0}) → ListOut
-  byCheck o = listChecked m N n F R b o
-
-  checked-answers : (o : Outcome (Unit {0})) → Answers (tableRefusals n) o → Answers (tableRefusals n ++ listRefusals) (byCheck o .answer)
-  checked-answers (answered u) h =
-      answers-right (tableRefusals n) listRefusals (byRoom (suffices n R b) (fitting N m) (exceeds m N n F R) .answer)
-      (room-answers (suffices n R b) (fitting N m) (exceeds m N n F R))
-  checked-answers (refused k i) h = among-left (tableRefusals n) listRefusals k i h
-
-  checked-kept : (o : Outcome (Unit {0})) (k p : ℕ) → byCheck o .answer ≡ refused k p → k ≢ 42 → Kept (byCheck o)
-  checked-kept (answered u) k p h other = room-kept (suffices n R b) (fitting N m) (exceeds m N n F R) k p h other
-  checked-kept (refused e i) k p h other = refl
-
-  checked-lack : (o : Outcome (Unit {0})) (p : ℕ) → Answers (tableRefusals n) o → byCheck o .answer ≡ refused 42 p → Zeroed (byCheck o)
-  checked-lack (answered u) p a h = room-lack (suffices n R b) (fitting N m) (exceeds m N n F R) p h
-  checked-lack (refused k i) p a h = absurd (among-other 42 (tableRefusals n) k i (omega arith) a (same-number k i 42 p h .0))
-
-  checked-past : (o : Outcome (Unit {0})) → check N n w ≡ o → byCheck o .answer ≡ answered tt → KeptPast (byCheck o)
-  checked-past (answered u) acc h = room-past acc (suffices n R b) (fitting N m) (exceeds m N n F R) refl h
-  checked-past (refused k i) acc h = absurd (value-not tt k i (sym h))
-
-  checked-weighed : (o : Outcome (Unit {0})) (p : ℕ) → Answers (tableRefusals n) o → byCheck o .answer ≡ refused 56 p → fitting N m ≡ false
-  checked-weighed (answered u) p a h = room-weighed (suffices n R b) (fitting N m) (exceeds m N n F R) p h
-  checked-weighed (refused k i) p a h = absurd (among-other 56 (tableRefusals n) k i (omega arith) a (same-number k i 56 p h .0))
-
-  -- ---- the listing
   abbrev out : ListOut
   out = listTable c m N n w R b
 
-  pub list-answers : Answers (tableRefusals n ++ listRefusals) (out .answer)
+  pub list-answers : Answers (tableRefusals n ++ ((41, At 0) ∷ (56, At 0) ∷ (42, At 0) ∷ [])) (out .answer)
   unfolding listTable
-  list-answers = checked-answers (check N n w) (check-answers N n w)
+  list-answers =
+      guarded-answers N n w tests b (lists over) ((42, At 0) ∷ []) (lack-answers (cleared n R b) (filled m N n F R b) tt refl refl over)
 
-  pub list-kept : (k p : ℕ) → out .answer ≡ refused k p → k ≢ 42 → Kept out
-  unfolding listTable
-  list-kept = checked-kept (check N n w)
+  only-lack : (k p : ℕ) → k ≢ 42 → lists over .answer ≡ refused k p → ⊥
+  only-lack = lack-only (cleared n R b) (filled m N n F R b) tt refl refl over
 
-  pub list-zeroed : (p : ℕ) → out .answer ≡ refused 42 p → Zeroed out
+  pub list-kept : (k p : ℕ) → out .answer ≡ refused k p → k ≢ 42 → out .after ≡ b
   unfolding listTable
-  list-zeroed p = checked-lack (check N n w) p (check-answers N n w)
+  list-kept k p h other = guarded-kept N n w tests b (lists over) k p (λ g. absurd (only-lack k p other g)) h
+
+  pub list-zeroed : (p : ℕ) → out .answer ≡ refused 42 p → out .after ≡ cleared n R b .after
+  unfolding listTable
+  list-zeroed p h =
+      let (acc, e) = guarded-refused N n w tests b (lists over) 42 p (omega arith) (omega arith) h in
+      let z : over ≡ true =
+      lack-full (cleared n R b) (filled m N n F R b) tt refl refl over p (sym (ap (λ (o : ListOut). o .answer) e) ∙ h) in
+      ap (λ (o : ListOut). o .after) e ∙ ap (λ (x : Bool). lists x .after) z
 
   pub list-weighed : (p : ℕ) → out .answer ≡ refused 56 p → Weights N m → ⊥
   unfolding listTable
   list-weighed p h k =
-      along (sym (fits-weights N m k) ∙ checked-weighed (check N n w) p (check-answers N n w) h) tt
+      guarded-unless N n w tests b (lists over) 56 p (omega arith)
+      (λ (e : 41 ≡ 56). absurd (omega arith), (λ (e : 56 ≡ 56). fits-weights N m k, tt))
+      (only-lack 56 p (omega arith)) h
 
   pub list-unweighed : Room N n w R b → (Weights N m → ⊥) → out .answer ≡ refused 56 0
   list-unweighed r none =
@@ -171,7 +119,11 @@ module _ (c : Bool) (m : List ℕ) (N n : ℕ) (w : List ℕ) (R : ℕ) (b : Len
 
   pub list-rest : out .answer ≡ answered tt → KeptPast out
   unfolding listTable
-  list-rest = checked-past (check N n w) refl
+  list-rest h =
+      let (acc, e) = guarded-done N n w tests b (lists over) tt h in
+      let z : over ≡ false =
+      done-fits (cleared n R b) (filled m N n F R b) tt refl refl over tt (sym (ap (λ (o : ListOut). o .answer) e) ∙ h) in
+      subst KeptPast (sym (e ∙ ap lists z)) (filled-past acc z)
 
 -- ---- the view
 module _ (s : List ℕ) (R i c : ℕ) where

@@ -18,21 +18,26 @@ use Rattle.table.specs.Words.{malformed, checkWords}
 use Rattle.table.proofs.Outcomes.{after-after}
 use Rattle.text.specs.Syntax.{print, Form}
 use Rattle.text.specs.Write.{nodeForm, tableText, writeChecked, writeTable}
+use Rattle.terms.specs.Lists.{keep}
 use Rattle.terms.specs.Prime.{implicant, prime, primes, reduce}
 use Rattle.terms.specs.Term.{isTerm, mask}
 use Rattle.terms.specs.declared.Term.{Term}
 use Rattle.measurements.specs.Measurement.{entries, measuredTerm, checkMeasurements, Measurements}
 use Rattle.weighing.specs.Weights.{fitting}
+use Rattle.exclusions.specs.Exclusions.{proper, respects, Exclusions}
 use Rattle.circuits.specs.Check.{check}
-use Rattle.circuits.specs.Function.{signed, signedFunction}
+use Rattle.circuits.specs.Function.{function, signed, signedFunction}
 use Rattle.circuits.proofs.Accepted.{accepted-e}
 use Rattle.circuits.proofs.Unread.{fault-same, node-same, function-same, malformed-same, range-same, check-same, withRest, rest-long}
 use Rattle.circuits.proofs.Unread.{rest-same, SameNodes}
 use Rattle.checks.specs.Arguments.{checkAssignment, checkTerm}
 use Rattle.queries.specs.Queries.{circuit, evaluation, modelCount, implicantTest, primeTest, assignmentTerm, reduction}
 use Rattle.partial.specs.Partial.{judgement, partialEvaluation}
-use Rattle.listing.specs.Listing.{lent, Lent, nodePrimes, padded, listedMasks, listedCounts, suffices, exceeds, untouched, cleared}
+use Rattle.listing.specs.Listing.{lent, Lent, nodePrimes, padded, listedMasks, listedCounts, suffices, exceeds, cleared}
 use Rattle.listing.specs.Listing.{filled, listChecked, listTable, ListOut}
+use Rattle.listing.specs.Tested.{tested}
+use Rattle.filtered.specs.Filtered.{shownPrimes, filteredLent, sufficesAll, clearedAll, filledAll, filteredChecked, filteredTable}
+use Rattle.filtered.specs.Filtered.{FilteredLent, FilteredOut}
 use Rattle.walk.specs.Walk.{checkSteps, walkListed, stepsFit, walkChecked, walkTable, WalkLent}
 use Rattle.demands.specs.Demands.{SameAnswers}
 
@@ -154,10 +159,40 @@ module _ (N n : ℕ) (w v : List ℕ) (long : wordsFor n ≤ length w) where
         where
           by : (o : Outcome (Unit {0})) → check N n w ≡ o → listChecked m N n F′ R b o ≡ listChecked m N n F R b o
           by (answered u) acc =
-              ap₂ (λ (x : Bool) (l : ListOut).
-              cond (suffices n R b) (cond (fitting N m) (cond x (cleared n R b) l) (untouched 56 0 b)) (untouched 41 0 b))
+              ap₂ (λ (x : Bool) (l : ListOut). tested ((suffices n R b, 41) ∷ (fitting N m, 56) ∷ []) b (cond x (cleared n R b) l))
               (exceeds-unread R acc) filled-unread
           by (refused k i) e = refl
+
+  -- ---- the listing with a shown list
+  module _ (m : List ℕ) (e : Exclusions) (R : ℕ) (b : FilteredLent) where
+    shown-unread : check N n w ≡ accepted → shownPrimes m e N n (function w′) ≡ shownPrimes m e N n (function w)
+    unfolding shownPrimes
+    shown-unread acc = ap (keep (respects e)) (primes-unread true m (pred n) (node-there acc))
+
+    filled-all-unread : check N n w ≡ accepted → filledAll m e N n (function w′) R b ≡ filledAll m e N n (function w) R b
+    filled-all-unread acc =
+        ap₂ (λ (ts : List Term) (l : ListOut). shows ts l) (shown-unread acc) (filled-unread true m R (b .nodes))
+      where
+        shows : List Term → ListOut → FilteredOut
+        shows ts l =
+            record {
+              answer = answered (length ts);
+              after =
+                  filteredLent (l .after) (padded R (map (λ t. mask t true) ts) ++ drop R (b .positives))
+                  (padded R (map (λ t. mask t false) ts) ++ drop R (b .negatives));
+            }
+
+    filter-unread : filteredTable m e N n w′ R b ≡ filteredTable m e N n w R b
+    unfolding filteredTable
+    filter-unread = ap (filteredChecked m e N n (function w′) R b) check-unread ∙ by (check N n w) refl
+      where
+        by : (o : Outcome (Unit {0})) → check N n w ≡ o
+            → filteredChecked m e N n (function w′) R b o ≡ filteredChecked m e N n (function w) R b o
+        by (answered u) acc =
+            ap₂ (λ (x : Bool) (l : FilteredOut).
+            tested ((sufficesAll n R b, 41) ∷ (fitting N m, 56) ∷ (proper N e, 57) ∷ []) b (cond x (clearedAll n R b) l))
+            (exceeds-unread true m R acc) (filled-all-unread acc)
+        by (refused k i) e = refl
 
   -- ---- the walk
   walk-unread : (m : List ℕ) (R : ℕ) (es : List Step) (b : WalkLent) → walkTable m N n w′ R es b ≡ walkTable m N n w R es b
@@ -206,5 +241,6 @@ module _ (N n : ℕ) (w v : List ℕ) (long : wordsFor n ≤ length w) where
         reduce = reduce-unread;
         partial = partial-unread;
         list = list-unread;
+        filter = filter-unread;
         walk = walk-unread;
       }

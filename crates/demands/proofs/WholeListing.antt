@@ -1,14 +1,16 @@
 -- Demand 3: the listing whole.
-use Prim.Native.Nat.{ℕ, pred, _+_, _*_, _<_, _≤_}
+use Prim.Native.Nat.{ℕ, pred, _+_, _-_, _*_, _<_, _≤_}
 use mathlib.Core.Path.{_≡_, refl, sym, ap, ap₂, subst, _∙_}
 use mathlib.Core.Bool.{Bool, true, false, not, cond}
 use mathlib.Core.Logic.{⊎-elim}
-use mathlib.Core.List.{List, [], _++_, List·Memᴰ}
+use mathlib.Core.List.{List, [], _++_, append-assoc, List·Memᴰ}
 use native.Mathlib.Nat.{le-trans, le-of-eq}
 use native.Mathlib.Omega.{arith}
 use lib.Dec.{T, ltb, ltb→lt, nltb→le}
-use lib.ListN.{length, getD, take, drop, List·getD-eq-default}
+use lib.ListN.{length, getD, take, drop, replicate, List·getD-append, List·getD-eq-default}
+use lib.Seq.{getD-append-add, take-at}
 use borrow.Author.Tests.{lt-ltb, le-ltb}
+use Rattle.buffers.proofs.Zeros.{zero-at}
 use Rattle.masks.proofs.Tests.{decide, along}
 use Rattle.table.specs.Outcome.{answered, refused}
 use Rattle.text.proofs.Readers.{value-not}
@@ -16,19 +18,26 @@ use Rattle.terms.specs.Lists.{Rising}
 use Rattle.terms.specs.Order.{before}
 use Rattle.terms.specs.Prime.{primes}
 use Rattle.terms.specs.Term.{termsOf}
+use Rattle.terms.specs.declared.Term.{Term}
 use Rattle.terms.proofs.Leaves.{before-plain}
 use Rattle.terms.proofs.Listed.{primes-lists, primes-rising}
-use Rattle.terms.proofs.Sorted.{rising-by}
+use Rattle.terms.proofs.Sorted.{rising-by, keep-out, keep-in, keep-rising}
 use Rattle.terms.proofs.Weights.{primes-none}
-use Rattle.circuits.specs.Function.{signedFunction}
+use Rattle.exclusions.specs.Exclusions.{respects, Exclusions}
+use Rattle.exclusions.proofs.Respects.{respects-e, respects-i}
+use Rattle.circuits.specs.Function.{function, signedFunction}
 use Rattle.circuits.proofs.Accepted.{accepted-e, Accepted}
 use Rattle.circuits.proofs.Largest.{no-more}
 use Rattle.insertion.specs.Filled.{bySign, masksOf}
-use Rattle.insertion.proofs.Parts.{terms-masks}
+use Rattle.insertion.proofs.Parts.{terms-masks, length-masks}
+use Rattle.queries.specs.Queries.{circuit}
 use Rattle.listing.specs.Listing.{nodePrimes, listedMasks, exceeds, cleared, filled, listTable, Lent, ListOut}
 use Rattle.listing.proofs.Answers.{out-is}
 use Rattle.listing.proofs.Table.{Fit, masks-back, unused-back, count-back}
-use Rattle.demands.specs.Demands.{Asked, entriesAt, byLiterals, NodeListed, Listed, WholeListing}
+use Rattle.filtered.specs.Filtered.{shownPrimes, clearedAll, filledAll, filteredTable, FilteredLent, FilteredOut}
+use Rattle.demands.specs.Demands.{Asked, ShownAsked, entriesAt, byLiterals, NodeListed, Listed, shownEntries, Shown, ShownListed}
+use Rattle.demands.specs.Demands.{WholeListing}
+use Rattle.demands.proofs.Filtering.{proper-pairs, shown-is, shown-few, shown-long, filter-nodes}
 use Rattle.demands.proofs.Listing.{room-suffices, fits-weights}
 
 module _ (c : Bool) (m : List ℕ) (N n : ℕ) (w : List ℕ) (R : ℕ) (lend : Lent) (asked : Asked m N n w R lend) where
@@ -126,10 +135,113 @@ module _ (c : Bool) (m : List ℕ) (N n : ℕ) (w : List ℕ) (R : ℕ) (lend : 
             unused = λ j lo hi. (zero-past j lo hi true, zero-past j lo hi false);
           }
 
-  listed : Listed m N n F R result
+  listed : Listed m N n F R (result .answer) tt (result .after)
   unfolding last
   listed = record { lack = lack-by (exceeds m N n F R) refl; lacking = lacking; done = done; nodes = node }
 
+-- ---- with a shown list
+module _ (m : List ℕ) (e : Exclusions) (N n : ℕ) (w : List ℕ) (R : ℕ) (lend : FilteredLent) (asked : ShownAsked m e N n w R lend) where
+  abbrev f : ℕ → Bool
+  f = circuit n w
+
+  abbrev rows′ : List Term
+  rows′ = shownPrimes m e N n (function w)
+
+  abbrev shows : FilteredOut
+  shows = filteredTable m e N n w R lend
+
+  plain-asked : Asked m N n w R (lend .nodes)
+  plain-asked = record { room = asked .room .nodes; weights = asked .weights }
+
+  shows-by : (z : Bool) → exceeds m N n (function w) R ≡ z
+      → shows ≡ cond z (clearedAll n R lend) (filledAll m e N n (function w) R lend)
+  shows-by z h =
+      shown-is m e N n w R lend (asked .room) true true z (fits-weights N m (asked .weights)) (proper-pairs N e (asked .pairs)) h
+
+  as-plain : (o : ListOut) → Listed m N n (function w) R (o .answer) tt (o .after) → shows .after .nodes ≡ o .after
+      → (shows .answer ≡ refused 42 0 → o .answer ≡ refused 42 0)
+      → Listed m N n (function w) R (shows .answer) (length rows′) (shows .after .nodes)
+  unfolding exceeds
+  as-plain o l same lacks =
+      record {
+        lack = λ h. l .lack (lacks h);
+        lacking = λ h. ap (λ (z : FilteredOut). z .answer) (shows-by true (lt-ltb R (length (nodePrimes m N (function w) (pred n))) h));
+        done = λ h. ap (λ (z : FilteredOut). z .answer) (shows-by false (le-ltb R (length (nodePrimes m N (function w) (pred n))) h));
+        nodes = λ h i k. subst (λ (a : Lent). NodeListed m N n (function w) R a i) (sym same) (l .nodes h i k);
+      }
+
+  -- ---- the shown list
+  module _ (fits : exceeds m N n (function w) R ≡ false) where
+    old : Bool → List ℕ
+    old = bySign (lend .positives) (lend .negatives)
+
+    zeros : Bool → List ℕ
+    zeros d = replicate (R - length (masksOf d rows′)) 0
+
+    masks : (d : Bool) → bySign (shows .after .positives) (shows .after .negatives) d ≡ (masksOf d rows′ ++ zeros d) ++ drop R (old d)
+    unfolding old zeros
+    masks true = ap (λ (z : FilteredOut). z .after .positives) (shows-by false fits)
+    masks false = ap (λ (z : FilteredOut). z .after .negatives) (shows-by false fits)
+
+    front : (d : Bool) → take (length rows′) (bySign (shows .after .positives) (shows .after .negatives) d) ≡ masksOf d rows′
+    front d =
+        ap (take (length rows′)) (masks d ∙ append-assoc (masksOf d rows′) (zeros d) (drop R (old d)))
+        ∙ take-at (masksOf d rows′) (zeros d ++ drop R (old d)) (length rows′) (length-masks d rows′)
+
+    shown-exact : shownEntries (length rows′) (shows .after) ≡ rows′
+    shown-exact = ap₂ termsOf (front true) (front false) ∙ terms-masks rows′
+
+    long : (d : Bool) → length (masksOf d rows′ ++ zeros d) ≡ R
+    unfolding zeros
+    long = shown-long m e N n w R lend fits
+
+    zero-behind : (j : ℕ) → length rows′ ≤ j → j < R → (d : Bool)
+        → getD (bySign (shows .after .positives) (shows .after .negatives) d) j 0 ≡ 0
+    unfolding zeros
+    zero-behind j lo hi d =
+        let size : length (masksOf d rows′) ≡ length rows′ = length-masks d rows′ in
+        let at : j ≡ length (masksOf d rows′) + (j - length rows′) = omega arith in
+        let inside : j < length (masksOf d rows′ ++ zeros d) = subst (λ (k : ℕ). j < k) (sym (long d)) hi in
+        ap (λ (z : List ℕ). getD z j 0) (masks d)
+        ∙ List·getD-append (masksOf d rows′ ++ zeros d) (drop R (old d)) 0 j inside
+        ∙ ap (λ (k : ℕ). getD (masksOf d rows′ ++ zeros d) k 0) at
+        ∙ getD-append-add (masksOf d rows′) (zeros d) (j - length rows′) 0
+        ∙ zero-at (R - length (masksOf d rows′)) (j - length rows′)
+
+    shown : Shown m e N f R (shows .after) (length rows′)
+    unfolding shownPrimes
+    shown =
+        let all : List Term = nodePrimes m N (function w) (pred n) in
+        record {
+          entries = ap length shown-exact;
+          fewer = shown-few m e N n w R lend fits;
+          only = λ t k.
+              let (in-all, ok) = keep-out (respects e) all t (subst (List·Memᴰ t) shown-exact k) in
+              (primes-lists m N f .only t in-all, respects-e e t ok);
+          every = λ t p ok.
+              subst (List·Memᴰ t) (sym shown-exact) (keep-in (respects e) all t (primes-lists m N f .every t p) (respects-i e t ok));
+          order = subst (Rising (before m)) (sym shown-exact) (keep-rising (respects e) (before m) all (primes-rising m N f));
+          unused = λ j lo hi. (zero-behind j lo hi true, zero-behind j lo hi false);
+        }
+
+  shown-listed : (o : ListOut) → Listed m N n (function w) R (o .answer) tt (o .after) → shows .after .nodes ≡ o .after
+      → (shows .answer ≡ refused 42 0 → o .answer ≡ refused 42 0) → ShownListed m e N n w R shows
+  unfolding exceeds
+  shown-listed o l same lacks =
+      record {
+        count = length rows′;
+        listed = as-plain o l same lacks;
+        shown = λ h. shown (le-ltb R (length (nodePrimes m N (function w) (pred n))) h);
+      }
+
 pub whole-listing : WholeListing
 unfolding result
-whole-listing = record { functions = listed true; negations = listed false }
+whole-listing =
+    record {
+      functions = λ m e N n w R b asked.
+          let (same, refusals, answers) = filter-nodes m e N n w R b (asked .room) (asked .pairs) in
+          shown-listed m e N n w R b asked (listTable true m N n w R (b .nodes))
+          (listed true m N n w R (b .nodes) (plain-asked m e N n w R b asked)) same (refusals 42 0);
+      negations = listed false;
+      walked = listed true;
+    }

@@ -35,13 +35,15 @@ use Rattle.states.specs.States.{stateAt}
 use Rattle.states.specs.declared.State.{State}
 use Rattle.states.specs.declared.StateJoin.{StateJoin}
 use Rattle.weighing.specs.Weights.{maxWeight}
+use Rattle.exclusions.specs.Exclusions.{firstAt, secondAt, Exclusions}
 use Rattle.measurements.specs.Measurement.{entries, variableAt, lowAt, highAt, thresholdAt, says, wrong, Measurements}
 use Rattle.circuits.specs.Check.{check}
 use Rattle.circuits.specs.Function.{function, nodeValue}
 use Rattle.queries.specs.Queries.{circuit, evaluation, modelCount, implicantTest, primeTest, reduction}
 use Rattle.partial.specs.Partial.{partialEvaluation}
 use Rattle.lists.specs.Capacity.{maxCapacity}
-use Rattle.listing.specs.Listing.{lent, Lent, nodePrimes, listTable, viewed, ListOut}
+use Rattle.listing.specs.Listing.{lent, Lent, nodePrimes, listTable, viewed}
+use Rattle.filtered.specs.Filtered.{filteredLent, filteredTable, FilteredLent, FilteredOut}
 use Rattle.walk.specs.Known.{actState}
 use Rattle.walk.specs.Walk.{walkTable, walkLent, WalkLent}
 
@@ -128,6 +130,16 @@ pub record Weights (N : ℕ) (m : List ℕ) : Type 0 where
   pub number : length m ≡ N
   pub most : (x : ℕ) → x < N → getD m x 0 ≤ maxWeight
 
+-- with a shown list: besides, buffers of it with R entries, and complete pairs of different variables below N
+pub record ShownRoom (N n : ℕ) (w : List ℕ) (R : ℕ) (b : FilteredLent) : Type 0 where
+  pub nodes : Room N n w R (b .nodes)
+  pub positives : R ≤ length (b .positives)
+  pub negatives : R ≤ length (b .negatives)
+
+pub record Pairs (N : ℕ) (e : Exclusions) : Type 0 where
+  pub complete : length (e .seconds) ≡ length (e .firsts)
+  pub different : (i : ℕ) → i < length (e .firsts) → (firstAt e i < N) × (secondAt e i < N) × (firstAt e i ≢ secondAt e i)
+
 -- every operation answers and leaves the same for the table w′ as for w
 pub record SameAnswers (N n : ℕ) (w w′ : List ℕ) : Type 0 where
   pub check : check N n w′ ≡ check N n w
@@ -139,6 +151,7 @@ pub record SameAnswers (N n : ℕ) (w w′ : List ℕ) : Type 0 where
   pub reduce : (s : ℕ) → reduction N n w′ s ≡ reduction N n w s
   pub partial : (t : Term) (m : Measurements) → partialEvaluation N n w′ t m ≡ partialEvaluation N n w t m
   pub list : (c : Bool) (m : List ℕ) (R : ℕ) (b : Lent) → listTable c m N n w′ R b ≡ listTable c m N n w R b
+  pub filter : (m : List ℕ) (e : Exclusions) (R : ℕ) (b : FilteredLent) → filteredTable m e N n w′ R b ≡ filteredTable m e N n w R b
   pub walk : (m : List ℕ) (R : ℕ) (es : List Step) (b : WalkLent) → walkTable m N n w′ R es b ≡ walkTable m N n w R es b
 
 -- ---- demand 1: every operation takes any input and does its work or refuses by a number of the scope, at a place that the
@@ -173,8 +186,8 @@ pub record AnyInput : Type 0 where
   -- the judgement of the term t with the measurements m: 53 comes with the lowest wrong one
   pub partial : (N n : ℕ) (w : List ℕ) (t : Term) (m : Measurements)
       → Answers (tableRefusals n ++ ((32, At 0) ∷ (53, WrongAt N t m) ∷ [])) (partialEvaluation N n w t m)
-  -- listing by the weights m with the capacity R into the buffers b: the nodes' functions where c is true, their negations where it is
-  -- false
+  -- listing by the weights m with the capacity R into the buffers b, without a shown list: the nodes' negations where c is false; where it
+  -- is true their functions, as a walk does first
   pub list : (c : Bool) (m : List ℕ) (N n : ℕ) (w : List ℕ) (R : ℕ) (b : Lent)
       → Answers (tableRefusals n ++ ((41, At 0) ∷ (56, At 0) ∷ (42, At 0) ∷ [])) (listTable c m N n w R b .answer)
   -- 56 exactly if there is not one weight for each variable, or one is above 1,000: after 21 to 25 and 41, and before 42
@@ -196,6 +209,40 @@ pub record AnyInput : Type 0 where
       → (drop (n * R) (a .positives) ≡ drop (n * R) (b .positives))
       × (drop (n * R) (a .negatives) ≡ drop (n * R) (b .negatives))
       × (drop n (a .counts) ≡ drop n (b .counts))
+  -- listing the nodes' functions, with those of the last node's terms shown that respect the exclusions e
+  pub filter : (m : List ℕ) (e : Exclusions) (N n : ℕ) (w : List ℕ) (R : ℕ) (b : FilteredLent)
+      → Answers (tableRefusals n ++ ((41, At 0) ∷ (56, At 0) ∷ (57, At 0) ∷ (42, At 0) ∷ [])) (filteredTable m e N n w R b .answer)
+  -- 56 as above, and 57 exactly if a pair is incomplete, has one variable twice or one not below N: after 56, and before 42
+  pub filter-unweighed : (m : List ℕ) (e : Exclusions) (N n : ℕ) (w : List ℕ) (R : ℕ) (b : FilteredLent) → ShownRoom N n w R b
+      → (Weights N m → ⊥) → filteredTable m e N n w R b .answer ≡ refused 56 0
+  pub filter-weighed : (m : List ℕ) (e : Exclusions) (N n : ℕ) (w : List ℕ) (R : ℕ) (b : FilteredLent) (p : ℕ)
+      → filteredTable m e N n w R b .answer ≡ refused 56 p → Weights N m → ⊥
+  pub filter-unpaired : (m : List ℕ) (e : Exclusions) (N n : ℕ) (w : List ℕ) (R : ℕ) (b : FilteredLent) → ShownRoom N n w R b
+      → Weights N m → (Pairs N e → ⊥) → filteredTable m e N n w R b .answer ≡ refused 57 0
+  pub filter-paired : (m : List ℕ) (e : Exclusions) (N n : ℕ) (w : List ℕ) (R : ℕ) (b : FilteredLent) (p : ℕ)
+      → filteredTable m e N n w R b .answer ≡ refused 57 p → Pairs N e → ⊥
+  -- a refusal other than 42 leaves every buffer as it was
+  pub filter-refused : (m : List ℕ) (e : Exclusions) (N n : ℕ) (w : List ℕ) (R : ℕ) (b : FilteredLent) (k p : ℕ)
+      → filteredTable m e N n w R b .answer ≡ refused k p → k ≢ 42 → filteredTable m e N n w R b .after ≡ b
+  -- 42 leaves the nodes' buffers as above, and zeros in the first R entries of the shown list's
+  pub filter-lack : (m : List ℕ) (e : Exclusions) (N n : ℕ) (w : List ℕ) (R : ℕ) (b : FilteredLent) (p : ℕ)
+      → filteredTable m e N n w R b .answer ≡ refused 42 p
+      → filteredTable m e N n w R b .after
+      ≡ filteredLent
+      (lent (replicate (n * R) 0 ++ drop (n * R) (b .nodes .positives)) (replicate (n * R) 0 ++ drop (n * R) (b .nodes .negatives))
+      (replicate n 0 ++ drop n (b .nodes .counts)))
+      (replicate R 0 ++ drop R (b .positives)) (replicate R 0 ++ drop R (b .negatives))
+  -- where it is done or refused by 42, the answer and the nodes' buffers are those of the listing without a shown list
+  pub filter-nodes : (m : List ℕ) (e : Exclusions) (N n : ℕ) (w : List ℕ) (R : ℕ) (b : FilteredLent) → ShownRoom N n w R b → Pairs N e
+      → let o : FilteredOut = filteredTable m e N n w R b in
+      (o .after .nodes ≡ listTable true m N n w R (b .nodes) .after)
+      × ((k p : ℕ) → o .answer ≡ refused k p → listTable true m N n w R (b .nodes) .answer ≡ refused k p)
+      × ((c : ℕ) → o .answer ≡ answered c → listTable true m N n w R (b .nodes) .answer ≡ answered tt)
+  -- a listing that is done leaves the entries of the shown list past R as they were
+  pub filter-past : (m : List ℕ) (e : Exclusions) (N n : ℕ) (w : List ℕ) (R : ℕ) (b : FilteredLent) (c : ℕ)
+      → let a : FilteredLent = filteredTable m e N n w R b .after in
+      filteredTable m e N n w R b .answer ≡ answered c
+      → (drop R (a .positives) ≡ drop R (b .positives)) × (drop R (a .negatives) ≡ drop R (b .negatives))
   -- the view of c entries of node i in the row buffer s: those from i × R on, and the empty part where an argument is out of range
   pub view : (s : List ℕ) (R i c : ℕ) → i < maxNodes → R ≤ maxCapacity → c ≤ R → i * R + c ≤ length s
       → viewed s R i c ≡ take c (drop (i * R) s)
@@ -355,13 +402,20 @@ pub record OneMeaning : Type 0 where
       → readText (take k (writeTable N n w sink .sink)) m
       ≡ answers (answered (N, n)) (take (wordsFor n) w ++ replicate (m - wordsFor n) 0)
 
--- ---- demand 3: a listing of an accepted circuit by weights that fit is refused (42) exactly if it has more prime implicants than the
--- capacity; else every node's entries are all its prime implicants, each once, in order by the weights, and nothing else; no node has more
--- than the last. F is the function of each node: what the circuit says, or its negation
--- what the listing asks
+-- ---- demand 3: a listing of an accepted circuit by weights and pairs that fit is refused (42) exactly if it has more prime implicants
+-- than the capacity; else every node's entries are all its prime implicants, each once, in order by the weights, and nothing else; no node
+-- has more than the last; and the shown list's are all of the last node's that respect the pairs. F is the function of each node: what the
+-- circuit says, or its negation
+-- what a listing asks
 pub record Asked (m : List ℕ) (N n : ℕ) (w : List ℕ) (R : ℕ) (b : Lent) : Type 0 where
   pub room : Room N n w R b
   pub weights : Weights N m
+
+-- with a shown list
+pub record ShownAsked (m : List ℕ) (e : Exclusions) (N n : ℕ) (w : List ℕ) (R : ℕ) (b : FilteredLent) : Type 0 where
+  pub room : ShownRoom N n w R b
+  pub weights : Weights N m
+  pub pairs : Pairs N e
 
 -- node i's entries in the buffers a: as many as its count says, from i × R on, as terms
 abbrev pub entriesAt : ℕ → Lent → ℕ → List Term
@@ -389,18 +443,45 @@ pub record NodeListed (m : List ℕ) (N n : ℕ) (F : ℕ → ℕ → Bool) (R :
   pub unused : (j : ℕ) → getD (a .counts) i 0 ≤ j → j < R
       → (getD (a .positives) (i * R + j) 0 ≡ 0) × (getD (a .negatives) (i * R + j) 0 ≡ 0)
 
--- such a listing
-pub record Listed (m : List ℕ) (N n : ℕ) (F : ℕ → ℕ → Bool) (R : ℕ) (o : ListOut) : Type 0 where
+-- such a listing: its answer is o, with the value v where it is done, and a are the buffers afterwards
+pub record Listed {A : Type 0} (m : List ℕ) (N n : ℕ) (F : ℕ → ℕ → Bool) (R : ℕ) (o : Outcome A) (v : A) (a : Lent) : Type 0 where
   -- 42 exactly if the circuit, its last node, has more prime implicants than R
-  pub lack : o .answer ≡ refused 42 0 → R < length (nodePrimes m N F (pred n))
-  pub lacking : R < length (nodePrimes m N F (pred n)) → o .answer ≡ refused 42 0
+  pub lack : o ≡ refused 42 0 → R < length (nodePrimes m N F (pred n))
+  pub lacking : R < length (nodePrimes m N F (pred n)) → o ≡ refused 42 0
   -- otherwise it is done, and every node is listed
-  pub done : length (nodePrimes m N F (pred n)) ≤ R → o .answer ≡ answered tt
-  pub nodes : length (nodePrimes m N F (pred n)) ≤ R → (i : ℕ) → i < n → NodeListed m N n F R (o .after) i
+  pub done : length (nodePrimes m N F (pred n)) ≤ R → o ≡ answered v
+  pub nodes : length (nodePrimes m N F (pred n)) ≤ R → (i : ℕ) → i < n → NodeListed m N n F R a i
 
--- both listings: of the nodes' functions (prime implicants, "clearances"), and of their negations ("blockers")
+-- of no pair has the term both positive literals
+abbrev pub Respects : Exclusions → Term → Type 0
+Respects e t = (i : ℕ) → i < length (e .firsts) → T (has t true (firstAt e i)) → T (has t true (secondAt e i)) → ⊥
+
+-- the first c entries of the shown list, as terms
+abbrev pub shownEntries : ℕ → FilteredLent → List Term
+shownEntries c a = termsOf (take c (a .positives)) (take c (a .negatives))
+
+-- the shown list in the buffers a after a listing by the weights m: f is the circuit's function, and c the number that is answered
+pub record Shown (m : List ℕ) (e : Exclusions) (N : ℕ) (f : ℕ → Bool) (R : ℕ) (a : FilteredLent) (c : ℕ) : Type 0 where
+  pub entries : length (shownEntries c a) ≡ c
+  pub fewer : c ≤ R
+  -- its entries are prime implicants that respect the pairs, and all of them, in order and so each once
+  pub only : (t : Term) → List·Memᴰ t (shownEntries c a) → Prime N f t × Respects e t
+  pub every : (t : Term) → Prime N f t → Respects e t → List·Memᴰ t (shownEntries c a)
+  pub order : Rising (before m) (shownEntries c a)
+  -- the other entries up to R are 0
+  pub unused : (j : ℕ) → c ≤ j → j < R → (getD (a .positives) j 0 ≡ 0) × (getD (a .negatives) j 0 ≡ 0)
+
+-- the listing of the nodes' functions (prime implicants, "clearances"), with a shown list
+pub record ShownListed (m : List ℕ) (e : Exclusions) (N n : ℕ) (w : List ℕ) (R : ℕ) (o : FilteredOut) : Type 0 where
+  pub count : ℕ
+  pub listed : Listed m N n (function w) R (o .answer) count (o .after .nodes)
+  pub shown : length (nodePrimes m N (function w) (pred n)) ≤ R → Shown m e N (circuit n w) R (o .after) count
+
+-- every listing: that one; that of the nodes' negations ("blockers"); and that which a walk makes first, of the nodes' functions
 pub record WholeListing : Type 0 where
-  pub functions : (m : List ℕ) (N n : ℕ) (w : List ℕ) (R : ℕ) (b : Lent) → Asked m N n w R b
-      → Listed m N n (function w) R (listTable true m N n w R b)
+  pub functions : (m : List ℕ) (e : Exclusions) (N n : ℕ) (w : List ℕ) (R : ℕ) (b : FilteredLent) → ShownAsked m e N n w R b
+      → ShownListed m e N n w R (filteredTable m e N n w R b)
   pub negations : (m : List ℕ) (N n : ℕ) (w : List ℕ) (R : ℕ) (b : Lent) → Asked m N n w R b
-      → Listed m N n (λ i s. not (function w i s)) R (listTable false m N n w R b)
+      → Listed m N n (λ i s. not (function w i s)) R (listTable false m N n w R b .answer) tt (listTable false m N n w R b .after)
+  pub walked : (m : List ℕ) (N n : ℕ) (w : List ℕ) (R : ℕ) (b : Lent) → Asked m N n w R b
+      → Listed m N n (function w) R (listTable true m N n w R b .answer) tt (listTable true m N n w R b .after)

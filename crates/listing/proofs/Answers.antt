@@ -12,9 +12,10 @@ use Rattle.terms.proofs.Embeddings.{primes-length}
 use Rattle.weighing.specs.Weights.{fitting}
 use Rattle.circuits.specs.Check.{check}
 use Rattle.circuits.specs.Function.{signedFunction}
-use Rattle.listing.specs.Exact.{Holds, Tried, Exact}
-use Rattle.listing.specs.Listing.{listedMasks, listedCounts, suffices, exceeds, listed, ListResult, untouched, cleared, filled}
+use Rattle.listing.specs.Exact.{Holds, Tried, Exact, Attempted}
+use Rattle.listing.specs.Listing.{listedMasks, listedCounts, suffices, exceeds, listed, ListResult, cleared, filled}
 use Rattle.listing.specs.Listing.{listChecked, listTable, lent, Lent, ListOut}
+use Rattle.listing.specs.Tested.{untouched}
 use Rattle.listing.specs.declared.Listing.{Listing}
 use Rattle.listing.specs.declared.Listing.the-variants.{Listed, Refused}
 use Rattle.listing.proofs.Bounds.{not-flip}
@@ -27,22 +28,21 @@ module _ (c : Bool) (m : List ℕ) (N n : ℕ) (w : List ℕ) (R : ℕ) (b : Len
   out = listTable c m N n w R b
 
   -- by the outcome
-  lists-by : (o : ListOut) (b′ : Lent) (r : Listing) → out ≡ o → listed r ≡ o .answer
-      → b′ .positives ≡ o .after .positives → b′ .negatives ≡ o .after .negatives → b′ .counts ≡ o .after .counts
-      → ListResult c m N n w R b b′ r
-  lists-by o b′ r e h p q c =
+  lists-by : (o : ListOut) (b′ : Lent) (r : Listing) → out ≡ o → listed r ≡ o .answer → b′ ≡ o .after → ListResult c m N n w R b b′ r
+  lists-by o b′ r e h a =
+      let left : b′ ≡ out .after = a ∙ ap (λ (z : ListOut). z .after) (sym e) in
       record {
         answer = h ∙ ap (λ (z : ListOut). z .answer) (sym e);
-        positives = p ∙ ap (λ (z : ListOut). z .after .positives) (sym e);
-        negatives = q ∙ ap (λ (z : ListOut). z .after .negatives) (sym e);
-        counts = c ∙ ap (λ (z : ListOut). z .after .counts) (sym e);
+        positives = ap (λ (z : Lent). z .positives) left;
+        negatives = ap (λ (z : Lent). z .negatives) left;
+        counts = ap (λ (z : Lent). z .counts) left;
       }
 
   -- ---- 21 to 25
   pub lists-refused : (r : Refusal) → refusedBy r ≡ check N n w → ListResult c m N n w R b b (Refused r)
   unfolding listTable
   lists-refused r e =
-      lists-by (untouched (numberOf r) (nodeOf r) b) b (Refused r) (ap (listChecked m N n F R b) (sym e)) refl refl refl refl
+      lists-by (untouched (numberOf r) (nodeOf r) b) b (Refused r) (ap (listChecked m N n F R b) (sym e)) refl refl
 
   module _ (acc : check N n w ≡ accepted) where
     pub out-is : (x y z : Bool) → suffices n R b ≡ x → fitting N m ≡ y → exceeds m N n F R ≡ z
@@ -55,41 +55,42 @@ module _ (c : Bool) (m : List ℕ) (N n : ℕ) (w : List ℕ) (R : ℕ) (b : Len
     -- ---- 41, and 56
     pub lists-short : suffices n R b ≡ false → ListResult c m N n w R b b (Refused Buffers)
     lists-short e =
-        lists-by (untouched 41 0 b) b (Refused Buffers) (out-is false (fitting N m) (exceeds m N n F R) e refl refl) refl refl refl refl
+        lists-by (untouched 41 0 b) b (Refused Buffers) (out-is false (fitting N m) (exceeds m N n F R) e refl refl) refl refl
 
     pub lists-unweighed : suffices n R b ≡ true → fitting N m ≡ false → ListResult c m N n w R b b (Refused Weights)
     lists-unweighed e f =
-        lists-by (untouched 56 0 b) b (Refused Weights) (out-is true false (exceeds m N n F R) e f refl) refl refl refl refl
+        lists-by (untouched 56 0 b) b (Refused Weights) (out-is true false (exceeds m N n F R) e f refl) refl refl
 
-    -- ---- the front of each buffer was listed in
-    module _ (enough : suffices n R b ≡ true) (fits : fitting N m ≡ true) (s : Bool → List ℕ) (cs : List ℕ) (r : Bool)
-        (x : Exact m N n F R s cs r) where
-      abbrev front : Lent
-      front = lent (s true ++ drop (n * R) (b .positives)) (s false ++ drop (n * R) (b .negatives)) (cs ++ drop n (b .counts))
-
+    -- ---- both tests are passed
+    module _ (enough : suffices n R b ≡ true) (fits : fitting N m ≡ true) (b′ : Lent) (r : Bool) (x : Attempted m N n F R b b′ r) where
       over : (y : Bool) → r ≡ y → exceeds m N n F R ≡ not y
       over y e = not-flip (exceeds m N n F R) y (sym (x .answer) ∙ e)
 
-      fronts : (y : Bool) → r ≡ y → (d : Bool) (old : List ℕ)
-          → s d ++ drop (n * R) old ≡ cond y (listedMasks m N n F R d) (replicate (n * R) 0) ++ drop (n * R) old
-      fronts y e d old =
-          ap (λ (z : List ℕ). z ++ drop (n * R) old)
-          (x .masks d ∙ ap (λ (q : Bool). cond q (listedMasks m N n F R d) (replicate (n * R) 0)) e)
+      left : (y : Bool) → r ≡ y → b′ ≡ cond y (filled m N n F R b) (cleared n R b) .after
+      left y e = x .after ∙ ap (λ (q : Bool). cond q (filled m N n F R b) (cleared n R b) .after) e
 
-      counted : (y : Bool) → r ≡ y → cs ++ drop n (b .counts) ≡ cond y (listedCounts m N n F) (replicate n 0) ++ drop n (b .counts)
-      counted y e =
-          ap (λ (z : List ℕ). z ++ drop n (b .counts))
-          (x .counts ∙ ap (λ (q : Bool). cond q (listedCounts m N n F) (replicate n 0)) e)
-
-      pub lists-all : r ≡ true → ListResult c m N n w R b front Listed
+      pub lists-all : r ≡ true → ListResult c m N n w R b b′ Listed
       lists-all e =
-          lists-by (filled m N n F R b) front Listed (out-is true true false enough fits (over true e)) refl
-          (fronts true e true (b .positives)) (fronts true e false (b .negatives)) (counted true e)
+          lists-by (filled m N n F R b) b′ Listed (out-is true true false enough fits (over true e)) refl (left true e)
 
-      pub lists-lack : r ≡ false → ListResult c m N n w R b front (Refused Capacity)
+      pub lists-lack : r ≡ false → ListResult c m N n w R b b′ (Refused Capacity)
       lists-lack e =
-          lists-by (cleared n R b) front (Refused Capacity) (out-is true true true enough fits (over false e)) refl
-          (fronts false e true (b .positives)) (fronts false e false (b .negatives)) (counted false e)
+          lists-by (cleared n R b) b′ (Refused Capacity) (out-is true true true enough fits (over false e)) refl (left false e)
+
+-- ---- the front of each buffer was listed in
+module _ (m : List ℕ) (N n : ℕ) (F : ℕ → ℕ → Bool) (R : ℕ) (b : Lent) (s : Bool → List ℕ) (cs : List ℕ) where
+  abbrev front : Lent
+  front = lent (s true ++ drop (n * R) (b .positives)) (s false ++ drop (n * R) (b .negatives)) (cs ++ drop n (b .counts))
+
+  fronts : (r : Bool) → ((d : Bool) → s d ≡ cond r (listedMasks m N n F R d) (replicate (n * R) 0))
+      → cs ≡ cond r (listedCounts m N n F) (replicate n 0) → front ≡ cond r (filled m N n F R b) (cleared n R b) .after
+  fronts true p q =
+      λ i. lent (p true i ++ drop (n * R) (b .positives)) (p false i ++ drop (n * R) (b .negatives)) (q i ++ drop n (b .counts))
+  fronts false p q =
+      λ i. lent (p true i ++ drop (n * R) (b .positives)) (p false i ++ drop (n * R) (b .negatives)) (q i ++ drop n (b .counts))
+
+  pub attempted : (r : Bool) → Exact m N n F R s cs r → Attempted m N n F R b front r
+  attempted r x = record { answer = x .answer; after = fronts r (x .masks) (x .counts) }
 
 -- ---- buffers of just the needed length
 module _ (m : List ℕ) (N n : ℕ) (F : ℕ → ℕ → Bool) (R : ℕ) (s : Bool → List ℕ) (cs : List ℕ) (r : Bool) (t : Tried N n F R s cs r) where

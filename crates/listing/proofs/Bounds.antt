@@ -1,11 +1,12 @@
 -- The range of an accepted table, and products that fit.
 use Prim.Native.Nat.{ℕ, _*_, _≤_}
-use mathlib.Core.Path.{_≡_, ap}
-use mathlib.Core.Bool.{Bool, true, false, not}
+use mathlib.Core.Path.{_≡_, refl, sym, ap, ap₂, _∙_}
+use mathlib.Core.Bool.{Bool, true, false, _&&_, _||_, not}
 use mathlib.Core.List.{List}
-use lib.Dec.{T, leb→le}
+use lib.Dec.{T, ltb, leb, leb→le}
 use lib.ListN.{length}
-use Rattle.masks.proofs.Tests.{and-l, and-r}
+use borrow.Author.Tests.{ltb-true, ltb-false, le-leb, lt-leb}
+use Rattle.masks.proofs.Tests.{and-l, and-r, along}
 use Rattle.table.specs.Layout.{wordsFor}
 use Rattle.table.specs.Node.{maxNodes}
 use Rattle.circuits.proofs.Accepted.{Accepted}
@@ -41,3 +42,23 @@ enough n R b h =
 pub not-flip : (b c : Bool) → not b ≡ c → b ≡ not c
 not-flip true c e = ap not e
 not-flip false c e = ap not e
+
+-- ---- two buffers, of x and y entries, each tested for k
+leb-not : (k x : ℕ) → leb k x ≡ not (ltb x k)
+leb-not k x = by (ltb x k) refl
+  where
+    by : (t : Bool) → ltb x k ≡ t → leb k x ≡ not t
+    by true e = lt-leb k x (ltb-true x k e)
+    by false e = le-leb k x (ltb-false x k e)
+
+pub two-fit : (k x y : ℕ) (t : Bool) → (ltb x k || ltb y k) ≡ t → (leb k x && leb k y) ≡ not t
+two-fit k x y t e = ap₂ _&&_ (leb-not k x) (leb-not k y) ∙ by (ltb x k) (ltb y k) ∙ ap not e
+  where
+    by : (x y : Bool) → (not x && not y) ≡ not (x || y)
+    by true y = refl
+    by false y = refl
+
+pub two-fit-e : (k x y : ℕ) → (leb k x && leb k y) ≡ true → (k ≤ x) × (k ≤ y)
+two-fit-e k x y e =
+    let t : T (leb k x && leb k y) = along (sym e) tt in
+    (leb→le k x (and-l (leb k x) (leb k y) t), leb→le k y (and-r (leb k x) (leb k y) t))

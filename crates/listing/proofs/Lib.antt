@@ -3,3 +3,4 @@ pub mod Bounds
 pub mod Answers
 pub mod NodeParts
 pub mod Arranged
+pub mod Last

@@ -10,7 +10,7 @@ use Rattle.weighing.specs.Weights.{fitting}
 use Rattle.circuits.specs.Check.{check}
 use Rattle.lists.specs.Capacity.{maxCapacity}
 use Rattle.listing.specs.declared.Shape.{Shape}
-use Rattle.listing.specs.Listing.{nodePrimes, listedMasks, listedCounts, exceeds}
+use Rattle.listing.specs.Listing.{nodePrimes, listedMasks, listedCounts, exceeds, cleared, filled, Lent}
 
 -- the capacity up to which scratch is small
 abbrev pub smallCapacity : ℕ
@@ -54,3 +54,8 @@ pub record Exact (m : List ℕ) (N n : ℕ) (F : ℕ → ℕ → Bool) (R : ℕ)
   pub answer : r ≡ not (exceeds m N n F R)
   pub masks : (b : Bool) → s b ≡ cond r (listedMasks m N n F R b) (replicate (n * R) 0)
   pub counts : cs ≡ cond r (listedCounts m N n F) (replicate n 0)
+
+-- a listing into the buffers b, which are large enough, by weights that fit: they are b′ then, and r says whether all terms fit
+pub record Attempted (m : List ℕ) (N n : ℕ) (F : ℕ → ℕ → Bool) (R : ℕ) (b b′ : Lent) (r : Bool) : Type 0 where
+  pub answer : r ≡ not (exceeds m N n F R)
+  pub after : b′ ≡ cond r (filled m N n F R b) (cleared n R b) .after

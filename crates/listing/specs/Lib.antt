@@ -1,2 +1,3 @@
+pub mod Tested
 pub mod Listing
 pub mod Exact

@@ -3,7 +3,7 @@
 use Prim.Native.Nat.{ℕ, pred, _-_, _+_, _*_}
 use mathlib.Core.Path.{_≡_}
 use mathlib.Core.Bool.{Bool, true, false, _&&_, cond}
-use mathlib.Core.List.{List, [], _++_, map, flatMap}
+use mathlib.Core.List.{List, [], _∷_, _++_, map, flatMap}
 use lib.Dec.{ltb, leb}
 use lib.ListN.{length, take, drop, replicate}
 use Rattle.masks.specs.Numbers.{below}
@@ -16,6 +16,7 @@ use Rattle.weighing.specs.Weights.{fitting}
 use Rattle.circuits.specs.Check.{check}
 use Rattle.circuits.specs.Function.{signedFunction}
 use Rattle.lists.specs.Capacity.{maxCapacity}
+use Rattle.listing.specs.Tested.{guarded, Out}
 use Rattle.listing.specs.declared.Listing.{Listing}
 use Rattle.listing.specs.declared.Listing.the-variants.{Listed, Refused}
 
@@ -55,13 +56,8 @@ unfoldable pub exceeds : List ℕ → ℕ → ℕ → (ℕ → ℕ → Bool) →
 exceeds m N n F R = ltb R (length (nodePrimes m N F (pred n)))
 
 -- the answer, with the buffers afterwards
-pub record ListOut : Type 0 where
-  pub answer : Outcome (Unit {0})
-  pub after : Lent
-
--- refused by the number k with the node i: every buffer as it was
-abbrev pub untouched : ℕ → ℕ → Lent → ListOut
-untouched k i b = record { answer = refused k i; after = b }
+abbrev pub ListOut : Type 0
+ListOut = Out (Unit {0}) Lent
 
 -- refused by 42: zeros in the first n × R entries of both row buffers and in the first n counts, the rest as it was
 abbrev pub cleared : ℕ → ℕ → Lent → ListOut
@@ -85,10 +81,8 @@ filled m N n F R b =
 
 -- by the answer of the check: 21 to 25, then 41, then 56, then 42
 abbrev pub listChecked : List ℕ → ℕ → ℕ → (ℕ → ℕ → Bool) → ℕ → Lent → Outcome (Unit {0}) → ListOut
-listChecked m N n F R b (refused k i) = untouched k i b
-listChecked m N n F R b (answered u) =
-    cond (suffices n R b) (cond (fitting N m) (cond (exceeds m N n F R) (cleared n R b) (filled m N n F R b)) (untouched 56 0 b))
-    (untouched 41 0 b)
+listChecked m N n F R b c =
+    guarded c ((suffices n R b, 41) ∷ (fitting N m, 56) ∷ []) b (cond (exceeds m N n F R) (cleared n R b) (filled m N n F R b))
 
 -- listing into the buffers b: the nodes' functions where the sign c is true, their negations where it is false
 unfoldable pub listTable : Bool → List ℕ → ℕ → ℕ → List ℕ → ℕ → Lent → ListOut

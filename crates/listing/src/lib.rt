@@ -11,7 +11,7 @@ ghost use Rattle.lists.specs.Capacity.{maxCapacity};
 ghost use Rattle.insertion.specs.Filled.{bySign};
 ghost use Rattle.nodes.specs.Part.{HasPlace};
 ghost use Rattle.weighing.specs.Weights.{fitting};
-ghost use Rattle.listing.specs.Exact.{smallCapacity, Zeroed, Tried, Exact};
+ghost use Rattle.listing.specs.Exact.{smallCapacity, Zeroed, Tried, Exact, Attempted};
 ghost use Rattle.listing.specs.Listing.{lent, ListResult, suffices, viewed};
 
 mod arrange;
@@ -207,7 +207,7 @@ fn list_exact(
 }
 
 // The capacity is at most 4,096, and the buffers are large enough for it: not 41.
-fn is_enough(
+pub fn is_enough(
     positives: &[u64],
     negatives: &[u64],
     counts: &[u32],
@@ -222,6 +222,34 @@ fn is_enough(
     }
     let total = n * capacity;
     (total <= positives.len()) & (total <= negatives.len()) & (n <= counts.len())
+}
+
+// Lists the prime implicants of an accepted circuit's nodes, or of their negations, where the buffers are large enough and the weights
+// fit; false, with zeros in their place, where the circuit has more than the capacity: 42.
+pub fn list_ready(
+    positives: &mut [u64],
+    negatives: &mut [u64],
+    counts: &mut [u32],
+    words: &[u32],
+    weights: &[u32],
+    shape: Shape,
+) -> bool
+    requires { ⌜ (check (shape .variables) (shape .nodes) (now words) ≡ accepted) × (fitting (shape .variables) (now weights) ≡ true) ⌝ }
+    requires { ⌜ suffices (shape .nodes) (shape .capacity) (lent (now positives) (now negatives) (now counts)) ≡ true ⌝ }
+    ensures { λ r. ⌜ Attempted (now (weights .entry)) (shape .variables) (shape .nodes)
+        (signedFunction (shape .sign) (now (words .entry))) (shape .capacity)
+        (lent (now (positives .entry)) (now (negatives .entry)) (now (counts .entry)))
+        (lent (now (positives .exit)) (now (negatives .exit)) (now (counts .exit))) r ⌝ }
+{
+    let total = shape.nodes * shape.capacity;
+    list_exact(
+        &mut positives[..total],
+        &mut negatives[..total],
+        &mut counts[..shape.nodes],
+        words,
+        weights,
+        shape,
+    )
 }
 
 // Lists the prime implicants of an accepted circuit's nodes, or of their negations: 41, 56 and 42.
@@ -239,87 +267,20 @@ pub fn list_accepted(
         (lent (now (positives .entry)) (now (negatives .entry)) (now (counts .entry)))
         (lent (now (positives .exit)) (now (negatives .exit)) (now (counts .exit))) r ⌝ }
 {
-    let n = shape.nodes;
-    if !is_enough(positives, negatives, counts, n, shape.capacity) {
+    if !is_enough(positives, negatives, counts, shape.nodes, shape.capacity) {
         return Listing::Refused(Refusal::Buffers);
     }
     if !weighing::fit(weights, shape.variables) {
         return Listing::Refused(Refusal::Weights);
     }
-    let total = n * shape.capacity;
-    if list_exact(
-        &mut positives[..total],
-        &mut negatives[..total],
-        &mut counts[..n],
-        words,
-        weights,
-        shape,
-    ) {
+    if list_ready(positives, negatives, counts, words, weights, shape) {
         return Listing::Listed;
     }
     Listing::Refused(Refusal::Capacity)
 }
 
-// Lists the prime implicants of every node, or of its negation where the sign is false: those of node i from entry i × capacity on, in
-// order by the weights, and their number at entry i of the counts.
-fn list_signed(
-    positives: &mut [u64],
-    negatives: &mut [u64],
-    counts: &mut [u32],
-    words: &[u32],
-    weights: &[u32],
-    variables: u32,
-    nodes: u32,
-    capacity: u32,
-    sign: bool,
-) -> Listing
-    ensures { λ r. ⌜ ListResult sign (now (weights .entry)) variables nodes (now (words .entry)) capacity
-        (lent (now (positives .entry)) (now (negatives .entry)) (now (counts .entry)))
-        (lent (now (positives .exit)) (now (negatives .exit)) (now (counts .exit))) r ⌝ }
-{
-    match checks::check(words, variables, nodes) {
-        Checked::Refused(refusal) => Listing::Refused(refusal),
-        Checked::Accepted => {
-            let shape = Shape {
-                sign,
-                variables,
-                nodes: nodes as usize,
-                capacity: capacity as usize,
-            };
-            list_accepted(positives, negatives, counts, words, weights, shape)
-        }
-    }
-}
-
-// Lists the prime implicants of every node ("clearances").
-pub fn list(
-    positives: &mut [u64],
-    negatives: &mut [u64],
-    counts: &mut [u32],
-    words: &[u32],
-    weights: &[u32],
-    variables: u32,
-    nodes: u32,
-    capacity: u32,
-) -> Listing
-    ensures { λ r. ⌜ ListResult true (now (weights .entry)) variables nodes (now (words .entry)) capacity
-        (lent (now (positives .entry)) (now (negatives .entry)) (now (counts .entry)))
-        (lent (now (positives .exit)) (now (negatives .exit)) (now (counts .exit))) r ⌝ }
-{
-    list_signed(
-        positives,
-        negatives,
-        counts,
-        words,
-        weights,
-        variables,
-        nodes,
-        capacity,
-        true,
-    )
-}
-
-// Lists the prime implicants of every node's negation ("blockers").
+// Lists the prime implicants of every node's negation ("blockers"): those of node i from entry i × capacity on, in order by the weights,
+// and their number at entry i of the counts.
 pub fn list_negation(
     positives: &mut [u64],
     negatives: &mut [u64],
@@ -334,15 +295,16 @@ pub fn list_negation(
         (lent (now (positives .entry)) (now (negatives .entry)) (now (counts .entry)))
         (lent (now (positives .exit)) (now (negatives .exit)) (now (counts .exit))) r ⌝ }
 {
-    list_signed(
-        positives,
-        negatives,
-        counts,
-        words,
-        weights,
-        variables,
-        nodes,
-        capacity,
-        false,
-    )
+    match checks::check(words, variables, nodes) {
+        Checked::Refused(refusal) => Listing::Refused(refusal),
+        Checked::Accepted => {
+            let shape = Shape {
+                sign: false,
+                variables,
+                nodes: nodes as usize,
+                capacity: capacity as usize,
+            };
+            list_accepted(positives, negatives, counts, words, weights, shape)
+        }
+    }
 }

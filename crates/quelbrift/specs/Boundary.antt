@@ -10,7 +10,7 @@ use Rattle.quelbrift.specs.declared.answer.Answer.{Answer}
 
 -- raised whenever an exported function or an answer changes
 abbrev pub version : ℕ
-version = 6
+version = 7
 
 abbrev pub doneWith : ℕ → ℕ → ℕ → Answer
 doneWith first second third = record { number = 0; place = 0; first = first; second = second; third = third }

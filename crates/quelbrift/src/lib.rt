@@ -1,7 +1,7 @@
 // What C and Rust call: each function is thin over one operation. A name is the whole program's, so each begins with the crate's.
 // include/quelbrift.h says what each takes, answers and leaves in each buffer.
 ghost use mathlib.Core.Path.{_≡_};
-ghost use mathlib.Core.Bool.{true, false};
+ghost use mathlib.Core.Bool.{false};
 ghost use lib.ListN.{length};
 ghost use Rattle.table.specs.Outcome.{answered};
 ghost use Rattle.text.specs.Read.{readText};
@@ -13,7 +13,9 @@ ghost use Rattle.queries.specs.Answers.{tested};
 ghost use Rattle.queries.specs.Queries.{evaluation, modelCount, implicantTest, primeTest, reduction};
 ghost use Rattle.partial.specs.Answers.{partialOutcome};
 ghost use Rattle.partial.specs.Partial.{partialEvaluation};
+ghost use Rattle.exclusions.specs.Exclusions.{exclusions};
 ghost use Rattle.listing.specs.Listing.{lent, listTable, listed, viewed};
+ghost use Rattle.filtered.specs.Filtered.{filteredLent, filteredTable, filtered};
 ghost use Rattle.quelbrift.specs.Boundary.{version, answerOf, nothing, number, numbers, triple, truth, masks, placed};
 
 mod answer;
@@ -25,6 +27,7 @@ use answer::done_three;
 use answer::done_truth;
 use answer::refused;
 use answer::refused_by;
+use filtered::FilteredListing;
 use listing::Listing;
 use partial::PartialEvaluation;
 use queries::Counted;
@@ -39,7 +42,7 @@ use text_assignment::assignment::AssignmentReading;
 use text_writer::writer::Written;
 
 // The version of these functions and their answers: QUELBRIFT_VERSION in the header.
-const VERSION: u32 = 6;
+const VERSION: u32 = 7;
 
 #[no_mangle]
 pub extern "C" fn quelbrift_version() -> u32
@@ -216,7 +219,61 @@ pub extern "C" fn quelbrift_evaluate_partial(
     ))
 }
 
-// The answer of a listing.
+// The answer of a listing with a shown list: how many terms that has.
+fn filtered_answer(r: FilteredListing) -> Answer
+    ensures { λ a. ⌜ a ≡ answerOf number (filtered r) ⌝ }
+{
+    match r {
+        FilteredListing::Listed(count) => done(count as u64, 0),
+        FilteredListing::Refused(why) => refused_by(why),
+    }
+}
+
+// Lists the prime implicants of every node, in order by the weights ("minutes"); and in the shown list those of the last node that
+// respect the pairs of variables that exclude each other.
+#[no_mangle]
+pub extern "C" fn quelbrift_list(
+    words: &[u32],
+    variables: u32,
+    nodes: u32,
+    weights: &[u32],
+    firsts: &[u32],
+    seconds: &[u32],
+    capacity: u32,
+    positives: &mut [u64],
+    negatives: &mut [u64],
+    counts: &mut [u32],
+    shown_positives: &mut [u64],
+    shown_negatives: &mut [u64],
+) -> Answer
+    ensures { λ r. ⌜ r ≡ answerOf number (filteredTable (now (weights .entry)) (exclusions (now (firsts .entry)) (now (seconds .entry)))
+        variables nodes (now (words .entry)) capacity
+        (filteredLent (lent (now (positives .entry)) (now (negatives .entry)) (now (counts .entry)))
+        (now («shown_positives» .entry)) (now («shown_negatives» .entry))) .answer) ⌝ }
+    ensures { λ _. ⌜ filteredLent (lent (now (positives .exit)) (now (negatives .exit)) (now (counts .exit)))
+        (now («shown_positives» .exit)) (now («shown_negatives» .exit))
+        ≡ filteredTable (now (weights .entry)) (exclusions (now (firsts .entry)) (now (seconds .entry)))
+        variables nodes (now (words .entry)) capacity
+        (filteredLent (lent (now (positives .entry)) (now (negatives .entry)) (now (counts .entry)))
+        (now («shown_positives» .entry)) (now («shown_negatives» .entry))) .after ⌝ }
+{
+    filtered_answer(filtered::list(
+        positives,
+        negatives,
+        counts,
+        shown_positives,
+        shown_negatives,
+        words,
+        weights,
+        firsts,
+        seconds,
+        variables,
+        nodes,
+        capacity,
+    ))
+}
+
+// The answer of a listing without a shown list.
 fn list_answer(r: Listing) -> Answer
     ensures { λ a. ⌜ a ≡ answerOf nothing (listed r) ⌝ }
 {
@@ -224,39 +281,6 @@ fn list_answer(r: Listing) -> Answer
         Listing::Listed => done(0, 0),
         Listing::Refused(why) => refused_by(why),
     }
-}
-
-// Lists the prime implicants of every node, in order by the weights ("minutes").
-#[no_mangle]
-pub extern "C" fn quelbrift_list(
-    words: &[u32],
-    variables: u32,
-    nodes: u32,
-    weights: &[u32],
-    capacity: u32,
-    positives: &mut [u64],
-    negatives: &mut [u64],
-    counts: &mut [u32],
-) -> Answer
-    ensures { λ r. ⌜ r ≡ answerOf nothing (listTable true (now (weights .entry)) variables nodes (now (words .entry)) capacity
-        (lent (now (positives .entry)) (now (negatives .entry)) (now (counts .entry))) .answer) ⌝ }
-    ensures { λ _. ⌜ now (positives .exit) ≡ listTable true (now (weights .entry)) variables nodes (now (words .entry)) capacity
-        (lent (now (positives .entry)) (now (negatives .entry)) (now (counts .entry))) .after .positives ⌝ }
-    ensures { λ _. ⌜ now (negatives .exit) ≡ listTable true (now (weights .entry)) variables nodes (now (words .entry)) capacity
-        (lent (now (positives .entry)) (now (negatives .entry)) (now (counts .entry))) .after .negatives ⌝ }
-    ensures { λ _. ⌜ now (counts .exit) ≡ listTable true (now (weights .entry)) variables nodes (now (words .entry)) capacity
-        (lent (now (positives .entry)) (now (negatives .entry)) (now (counts .entry))) .after .counts ⌝ }
-{
-    list_answer(listing::list(
-        positives,
-        negatives,
-        counts,
-        words,
-        weights,
-        variables,
-        nodes,
-        capacity,
-    ))
 }
 
 // Lists the prime implicants of every node's negation, in the same order.

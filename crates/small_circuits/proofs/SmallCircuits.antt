@@ -13,6 +13,7 @@ use Rattle.terms.specs.Order.{weight, key, before}
 use Rattle.terms.specs.Prime.{implicant, prime, candidates, primes}
 use Rattle.terms.specs.Term.{isTerm, agrees}
 use Rattle.weighing.specs.Weights.{fitting}
+use Rattle.exclusions.specs.Exclusions.{proper, respects}
 use Rattle.measurements.specs.Measurement.{measuredTerm, wrong, checkMeasurements}
 use Rattle.circuits.specs.Check.{parentless, undecomposable, unreduced, check}
 use Rattle.circuits.specs.Function.{bottomUp, ofNode, function, support}
@@ -20,11 +21,12 @@ use Rattle.checks.specs.Arguments.{checkTerm}
 use Rattle.queries.specs.Queries.{modelCount}
 use Rattle.partial.specs.Partial.{judgement, partialEvaluation}
 use Rattle.listing.specs.Listing.{exceeds, listTable}
+use Rattle.filtered.specs.Filtered.{shownPrimes, filteredTable}
 use Rattle.small_circuits.specs.Small.{smallHolds, judgements, small}
 
 pub small-holds : T (all smallHolds small)
 unfolding small judgements modelCount partialEvaluation judgement status modelsUnder checkTerm checkMeasurements wrong measuredTerm
-    listTable exceeds check malformed parentless undecomposable unreduced support nodeAt wordsAt putWords
+    listTable filteredTable shownPrimes proper respects exceeds check malformed parentless undecomposable unreduced support nodeAt wordsAt putWords
     childrenFit bottomUp ofNode function primes prime candidates implicant agrees isTerm weight key before sort
     fitting bit put size disjoint every some count total least below
     readText headerAt linesAt formAt restWith endAt closeAt headAt tailAt wordAt rangedAt matchAt numberAt digitsAt digitAt

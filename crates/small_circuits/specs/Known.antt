@@ -3,17 +3,19 @@ use Prim.Native.Nat.{ℕ, pred, _*_}
 use mathlib.Core.Bool.{Bool, true, false, _&&_, cond}
 use mathlib.Core.List.{List, [], _∷_}
 use lib.Dec.{eqb}
-use lib.ListN.{replicate}
+use lib.ListN.{take, replicate}
 use Rattle.table.specs.Outcome.{Outcome, answered, refused}
 use Rattle.terms.specs.Lists.{all}
-use Rattle.terms.specs.Term.{term}
+use Rattle.terms.specs.Term.{term, termsOf}
 use Rattle.terms.specs.declared.Term.{Term}
 use Rattle.measurements.specs.Measurement.{measurements, Measurements}
+use Rattle.exclusions.specs.Exclusions.{Exclusions}
 use Rattle.circuits.specs.Check.{check}
 use Rattle.circuits.specs.Function.{signedFunction}
 use Rattle.queries.specs.Queries.{modelCount}
 use Rattle.partial.specs.Partial.{partialEvaluation}
 use Rattle.listing.specs.Listing.{nodePrimes, lent, listTable}
+use Rattle.filtered.specs.Filtered.{filteredLent, filteredTable, FilteredLent, FilteredOut}
 
 -- prime implicants in order where every weight is 0, whether some capacities suffice, and their order by some weights
 pub record Primes : Type 0 where
@@ -32,6 +34,8 @@ pub data Known : Type 0 where
   fault : ℕ → ℕ → Known
   -- its model count, its prime implicants, those of its negation, and judgements
   accepts : ℕ → Primes → Primes → List Question → Known
+  -- with this capacity and these exclusions its shown list has these terms, or the listing is refused; and what else is known
+  shows : ℕ → Exclusions → Outcome (List Term) → Known → Known
 
 abbrev sameTerms : List Term → List Term → Bool
 sameTerms [] [] = true
@@ -78,9 +82,27 @@ listsAs c N n w ps =
     ordered c (replicate N 0) N n w (ps .terms) && all (λ r. fits c N n w (r .0) (r .1)) (ps .capacities)
     && all (λ o. ordered c (o .0) N n w (o .1)) (ps .weighed)
 
+-- the shown list of a listing in which every weight is 0, by the number that is answered, into buffers of just the needed length
+abbrev shownTerms : Outcome ℕ → FilteredLent → Outcome (List Term)
+shownTerms (answered c) a = answered (termsOf (take c (a .positives)) (take c (a .negatives)))
+shownTerms (refused k i) a = refused k i
+
+abbrev shownList : ℕ → Exclusions → ℕ → ℕ → List ℕ → Outcome (List Term)
+shownList R e N n w =
+    let rows : List ℕ = replicate (n * R) 7 in
+    let shown : List ℕ = replicate R 7 in
+    let o : FilteredOut = filteredTable (replicate N 0) e N n w R (filteredLent (lent rows rows (replicate n 7)) shown shown) in
+    shownTerms (o .answer) (o .after)
+
+abbrev sameShown : Outcome (List Term) → Outcome (List Term) → Bool
+sameShown (refused k i) o = refusedAs k i o
+sameShown (answered ts) (refused k i) = false
+sameShown (answered ts) (answered us) = sameTerms ts us
+
 -- of a table of n nodes over N variables; the circuit is the last node. 21 to 25 come before 32 and 53
 abbrev pub holds : ℕ → ℕ → List ℕ → Known → Bool
 holds N n w (fault k i) =
     refusedAs k i (check N n w) && refusedAs k i (partialEvaluation N n w (term 1 1) (measurements (N ∷ []) [] [] []))
 holds N n w (accepts m ps qs js) =
     isAccepted (check N n w) && isCount m (modelCount N n w) && listsAs true N n w ps && listsAs false N n w qs && all (judgedAs N n w) js
+holds N n w (shows R e o k) = let rest : Bool = holds N n w k in sameShown o (shownList R e N n w) && rest

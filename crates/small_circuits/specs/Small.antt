@@ -11,7 +11,8 @@ use Rattle.text.specs.Read.{readText, ReadOut}
 use Rattle.terms.specs.Term.{term}
 use Rattle.terms.specs.declared.Term.{Term}
 use Rattle.measurements.specs.Measurement.{measurements, Measurements}
-use Rattle.small_circuits.specs.Known.{holds, Known, fault, accepts, Primes, Question}
+use Rattle.exclusions.specs.Exclusions.{exclusions}
+use Rattle.small_circuits.specs.Known.{holds, Known, fault, accepts, shows, Primes, Question}
 
 -- a circuit text, and what is known of the circuit
 pub record SmallCircuit : Type 0 where
@@ -87,6 +88,20 @@ judgements =
     ∷ asks (term 1 1) (one 3 (pos 0) (pos 9) (pos 5)) (refused 32 0)
     ∷ []
 
+-- shown lists of P9, whose clearances are 0 and 1 false, 0 and 1 true, 0 and 2 true, 2 true and 1 false
+abbrev filtered : Known → Known
+filtered k =
+    -- no pair; one, reversed and repeated; one that no clearance has true in both; two
+    shows 4 (exclusions [] []) (answered (term 0 3 ∷ term 3 0 ∷ term 5 0 ∷ term 4 2 ∷ []))
+    (shows 4 (exclusions (1 ∷ 0 ∷ []) (0 ∷ 1 ∷ [])) (answered (term 0 3 ∷ term 5 0 ∷ term 4 2 ∷ []))
+    (shows 4 (exclusions (1 ∷ []) (2 ∷ [])) (answered (term 0 3 ∷ term 3 0 ∷ term 5 0 ∷ term 4 2 ∷ []))
+    (shows 4 (exclusions (0 ∷ 2 ∷ []) (1 ∷ 0 ∷ [])) (answered (term 0 3 ∷ term 4 2 ∷ []))
+    -- three are shown, and four do not fit
+    (shows 3 (exclusions (1 ∷ []) (0 ∷ [])) (refused 42 0)
+    -- a variable twice, and one out of range, both before 42; an incomplete pair
+    (shows 3 (exclusions (0 ∷ 2 ∷ []) (1 ∷ 2 ∷ [])) (refused 57 0)
+    (shows 3 (exclusions (3 ∷ []) (0 ∷ [])) (refused 57 0) (shows 4 (exclusions (0 ∷ []) []) (refused 57 0) k)))))))
+
 -- after each count the prime implicants of the circuit ("clearances"), those of its negation ("blockers"), then judgements; before a list
 -- some weights and the list in their order
 unfoldable pub small : List SmallCircuit
@@ -113,10 +128,11 @@ small =
     -- P9: with a capacity of 2 or 3 the clearances lack room, the blockers do not. By the weights 10, 0 and 3 the clearances weigh 10, 10,
     -- 13 and 3
     ∷ circuit "(circuit 3)\n(pick 0 (no 1) (pick 1 (yes 2) (true)))\n"
+    (filtered
     (accepts 5
     (weighing (10 ∷ 0 ∷ 3 ∷ []) (term 4 2 ∷ term 0 3 ∷ term 3 0 ∷ term 5 0 ∷ [])
     (these (term 0 3 ∷ term 3 0 ∷ term 5 0 ∷ term 4 2 ∷ []) ((3, false) ∷ (4, true) ∷ [])))
-    (these (term 2 1 ∷ term 1 6 ∷ []) ((1, false) ∷ (2, true) ∷ [])) judgements)
+    (these (term 2 1 ∷ term 1 6 ∷ []) ((1, false) ∷ (2, true) ∷ [])) judgements))
     -- P10 to P12: v3, v2 and v1 of Example 1 in the article, with b, e, p, s as variables 0 to 3
     ∷ circuit "(circuit 4)\n(pick 3 (true) (yes 2))\n"
     (accepts 12 (these (term 4 0 ∷ term 0 8 ∷ []) []) (these (term 8 4 ∷ []) []) [])

@@ -4,7 +4,7 @@ use Rattle.table.specs.declared.Checked.{Checked}
 use Rattle.table.specs.declared.Checked.the-variants.{Accepted, Refused}
 use Rattle.table.specs.declared.Refusal.{Refusal}
 use Rattle.table.specs.declared.Refusal.the-variants.{Sizes, Malformed, Parentless, Undecomposable, Unreduced, Assignment}
-use Rattle.table.specs.declared.Refusal.the-variants.{NotTerm, Unsatisfied, Buffers, Weights, Capacity}
+use Rattle.table.specs.declared.Refusal.the-variants.{NotTerm, Unsatisfied, Buffers, Weights, Exclusions, Capacity}
 
 -- a value, or a refusal: its number and its node, place or needed length
 pub data Outcome (A : Type 0) : Type 0 where
@@ -32,6 +32,7 @@ numberOf NotTerm = 32
 numberOf Unsatisfied = 33
 numberOf Buffers = 41
 numberOf Weights = 56
+numberOf Exclusions = 57
 numberOf Capacity = 42
 
 abbrev pub nodeOf : Refusal → ℕ
@@ -45,6 +46,7 @@ nodeOf NotTerm = 0
 nodeOf Unsatisfied = 0
 nodeOf Buffers = 0
 nodeOf Weights = 0
+nodeOf Exclusions = 0
 nodeOf Capacity = 0
 
 abbrev pub refusedBy : {A : Type 0} → Refusal → Outcome A

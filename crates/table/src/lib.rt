@@ -46,6 +46,8 @@ pub enum Refusal {
     Buffers,
     // not one weight for each variable, or one above 1,000
     Weights,
+    // a pair of variables that is incomplete, has one variable twice, or one not below N
+    Exclusions,
     // more prime implicants than the capacity
     Capacity,
 }
@@ -71,6 +73,7 @@ pub fn number_of(why: Refusal) -> u32
         Refusal::Unsatisfied => 33,
         Refusal::Buffers => 41,
         Refusal::Weights => 56,
+        Refusal::Exclusions => 57,
         Refusal::Capacity => 42,
     }
 }
@@ -90,6 +93,7 @@ pub fn node_of(why: Refusal) -> u32
         Refusal::Unsatisfied => 0,
         Refusal::Buffers => 0,
         Refusal::Weights => 0,
+        Refusal::Exclusions => 0,
         Refusal::Capacity => 0,
     }
 }

@@ -3,11 +3,8 @@ use Prim.Native.Nat.{ℕ, _≤_}
 use mathlib.Core.Path.{_≡_, refl, sym, ap, ap₂, _∙_}
 use mathlib.Core.Bool.{Bool, true, false, _&&_, _||_, not, cond}
 use mathlib.Core.List.{List, _++_}
-use native.Mathlib.Omega.{arith}
-use lib.Dec.{T, ltb, leb, leb→le}
+use lib.Dec.{ltb, leb}
 use lib.ListN.{length, drop}
-use borrow.Author.Tests.{ltb-true, ltb-false, le-leb, lt-leb}
-use Rattle.masks.proofs.Tests.{and-l, and-r, along}
 use Rattle.table.specs.Outcome.{accepted, after, refusedBy, Outcome, answered, refused}
 use Rattle.table.specs.declared.Refusal.{Refusal}
 use Rattle.table.specs.declared.Refusal.the-variants.{Buffers}
@@ -18,6 +15,7 @@ use Rattle.queries.specs.Queries.{circuit}
 use Rattle.listing.specs.Listing.{listTable, listed, ListResult, Lent, ListOut}
 use Rattle.listing.specs.declared.Listing.{Listing}
 use Rattle.listing.specs.declared.Listing.the-variants.{Listed, Refused}
+use Rattle.listing.proofs.Bounds.{two-fit, two-fit-e}
 use Rattle.walk.specs.Answers.{walkedOutcome, WalkResult}
 use Rattle.walk.specs.Walk.{checkSteps, compatible, afterEach, settled, walkLent, walkListed, stepsFit, walkChecked, walkTable}
 use Rattle.walk.specs.Walk.{WalkLent, WalkOut}
@@ -25,32 +23,15 @@ use Rattle.walk.specs.declared.Walked.{Walked}
 
 -- ---- the buffers of the steps, by the tests of the code
 module _ (es : List Step) (b : WalkLent) (k : ℕ) (size : length es ≡ k) where
-  leb-not : (m : ℕ) → leb k m ≡ not (ltb m k)
-  leb-not m = by (ltb m k) refl
-    where
-      by : (t : Bool) → ltb m k ≡ t → leb k m ≡ not t
-      by true e = lt-leb k m (ltb-true m k e)
-      by false e = le-leb k m (ltb-false m k e)
-
   pub fits-by : (t : Bool) → (ltb (length (b .statuses)) k || ltb (length (b .compatibles)) k) ≡ t → stepsFit es b ≡ not t
   fits-by t e =
       ap (λ (m : ℕ). leb m (length (b .statuses)) && leb m (length (b .compatibles))) size
-      ∙ ap₂ _&&_ (leb-not (length (b .statuses))) (leb-not (length (b .compatibles)))
-      ∙ by (ltb (length (b .statuses)) k) (ltb (length (b .compatibles)) k)
-      ∙ ap not e
-    where
-      by : (x y : Bool) → (not x && not y) ≡ not (x || y)
-      by true y = refl
-      by false y = refl
+      ∙ two-fit k (length (b .statuses)) (length (b .compatibles)) t e
 
   pub fits-e : stepsFit es b ≡ true → (k ≤ length (b .statuses)) × (k ≤ length (b .compatibles))
   fits-e e =
-      let p : Bool = leb (length es) (length (b .statuses)) in
-      let q : Bool = leb (length es) (length (b .compatibles)) in
-      let t : T (p && q) = along (sym e) tt in
-      let l : length es ≤ length (b .statuses) = leb→le (length es) (length (b .statuses)) (and-l p q t) in
-      let m : length es ≤ length (b .compatibles) = leb→le (length es) (length (b .compatibles)) (and-r p q t) in
-      (omega arith, omega arith)
+      two-fit-e k (length (b .statuses)) (length (b .compatibles))
+      (sym (ap (λ (m : ℕ). leb m (length (b .statuses)) && leb m (length (b .compatibles))) size) ∙ e)
 
 module _ (m : List ℕ) (N n : ℕ) (w : List ℕ) (R : ℕ) (es : List Step) (b : WalkLent) where
   abbrev f : ℕ → Bool

@@ -1,12 +1,10 @@
 -- A listing that is done: the part of the last node holds the prime implicants of the circuit.
-use Prim.Native.Nat.{ℕ, suc, pred, _+_, _*_, _<_, _≤_}
+use Prim.Native.Nat.{ℕ, pred, _*_, _≤_}
 use mathlib.Core.Path.{_≡_, refl, sym, ap, _∙_}
 use mathlib.Core.Bool.{Bool, true, false}
 use mathlib.Core.List.{List}
-use native.Mathlib.Nat.{le-trans, suc-mul}
 use native.Mathlib.Omega.{arith}
 use lib.ListN.{length, getD, take, drop}
-use borrow.Author.Tests.{ltb-false}
 use Rattle.masks.proofs.Tests.{along}
 use Rattle.table.specs.Outcome.{accepted, answered}
 use Rattle.terms.specs.Prime.{primes}
@@ -14,21 +12,15 @@ use Rattle.terms.specs.declared.Term.{Term}
 use Rattle.weighing.specs.Weights.{fitting}
 use Rattle.circuits.specs.Check.{check}
 use Rattle.circuits.specs.Function.{signedFunction}
-use Rattle.circuits.proofs.Accepted.{accepted-e}
-use Rattle.circuits.proofs.Largest.{no-more}
 use Rattle.queries.specs.Queries.{circuit}
 use Rattle.insertion.specs.Filled.{bySign, masksOf}
 use Rattle.listing.specs.Listing.{suffices, exceeds, filled, listTable, ListResult, Lent, ListOut}
 use Rattle.listing.specs.declared.Listing.the-variants.{Listed}
 use Rattle.listing.proofs.Answers.{out-is}
-use Rattle.listing.proofs.Bounds.{nodes-some, enough, Enough}
-use Rattle.listing.proofs.Table.{Fit, masks-back, count-back}
+use Rattle.listing.proofs.Bounds.{enough, Enough}
+use Rattle.listing.proofs.Last.{last-few, last-count, last-masks}
 use Rattle.walk.specs.Ready.{planPrimes, StepsReady, WalkReady}
 use Rattle.walk.specs.declared.Plan.{Plan}
-
--- the last of n parts
-pub last-part : (n R : ℕ) → 1 ≤ n → pred n * R + R ≡ n * R
-last-part n R h = let e : n ≡ suc (pred n) = omega arith in sym (ap (λ (k : ℕ). k * R) e ∙ suc-mul (pred n) R)
 
 module _ (m : List ℕ) (N n : ℕ) (w : List ℕ) (R : ℕ) (b : Lent) (acc : check N n w ≡ accepted) where
   abbrev F : ℕ → ℕ → Bool
@@ -68,29 +60,15 @@ module _ (m : List ℕ) (N n : ℕ) (w : List ℕ) (R : ℕ) (b : Lent) (acc : c
     large = enough n R b (along (sym (tests .0)) tt)
 
     few : length rows ≤ R
-    unfolding exceeds
-    few = ltb-false R (length rows) (tests .2)
-
-    fit : Fit m N F R n
-    fit i l = le-trans (no-more (accepted-e N n w acc) true m i l) few
-
-    last : pred n < n
-    last = let h : 1 ≤ n = nodes-some (accepted-e N n w acc) in omega arith
+    few = last-few true m N n w R acc (tests .2)
 
     count : getD (out .after .counts) (pred n) 0 ≡ length rows
-    count = ap (λ (z : ListOut). getD (z .after .counts) (pred n) 0) is-filled ∙ count-back m N F R n (pred n) (drop n (b .counts)) last
+    count = ap (λ (z : ListOut). getD (z .after .counts) (pred n) 0) is-filled ∙ last-count true m N n w R acc (tests .2) b
 
     masks : (s : Bool) → take (length rows) (drop (pred n * R) (bySign (out .after .positives) (out .after .negatives) s)) ≡ masksOf s rows
     masks s =
         ap (λ (z : ListOut). take (length rows) (drop (pred n * R) (bySign (z .after .positives) (z .after .negatives) s))) is-filled
-        ∙ by s
-      where
-        by : (s : Bool)
-            → take (length rows)
-            (drop (pred n * R) (bySign (filled m N n F R b .after .positives) (filled m N n F R b .after .negatives) s))
-            ≡ masksOf s rows
-        by true = masks-back m N F R n (pred n) true (drop (n * R) (b .positives)) fit last
-        by false = masks-back m N F R n (pred n) false (drop (n * R) (b .negatives)) fit last
+        ∙ last-masks true m N n w R acc (tests .2) b s
 
 -- what the walk needs of it
 pub walk-ready : (m : List ℕ) (h : Plan) (w : List ℕ) (R k c : ℕ) (b b′ : Lent) → StepsReady h w k c

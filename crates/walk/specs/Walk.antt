@@ -17,6 +17,7 @@ use Rattle.terms.specs.declared.Term.{Term}
 use Rattle.circuits.specs.Check.{check}
 use Rattle.queries.specs.Queries.{circuit}
 use Rattle.listing.specs.Listing.{listTable, Lent, ListOut}
+use Rattle.listing.specs.Tested.{untouched, tested, Out}
 use Rattle.walk.specs.Known.{known}
 
 -- ---- what is wrong with the steps
@@ -54,9 +55,8 @@ abbrev pub walkLent : Lent → List ℕ → List ℕ → WalkLent
 walkLent b ss cs = record { rows = b; statuses = ss; compatibles = cs }
 
 -- the answer, with the buffers afterwards
-pub record WalkOut : Type 0 where
-  pub answer : Outcome (ℕ × ℕ)
-  pub after : WalkLent
+abbrev pub WalkOut : Type 0
+WalkOut = Out (ℕ × ℕ) WalkLent
 
 -- ---- by the answer of the listing, which may be a refusal: the entries of the steps, the later ones as they were
 abbrev pub walkListed : ℕ → (ℕ → Bool) → List Step → WalkLent → Lent → Outcome (Unit {0}) → WalkOut
@@ -77,10 +77,10 @@ stepsFit es b = leb (length es) (length (b .statuses)) && leb (length es) (lengt
 
 -- by the answer of the check, 21 to 25, and of the steps, 54 and 55: then 41, and the listing's own refusals
 abbrev pub walkChecked : List ℕ → ℕ → ℕ → List ℕ → ℕ → List Step → WalkLent → Outcome (Unit {0}) → WalkOut
-walkChecked m N n w R es b (refused k i) = record { answer = refused k i; after = b }
+walkChecked m N n w R es b (refused k i) = untouched k i b
 walkChecked m N n w R es b (answered u) =
     let l : ListOut = listTable true m N n w R (b .rows) in
-    cond (stepsFit es b) (walkListed N (circuit n w) es b (l .after) (l .answer)) (record { answer = refused 41 0; after = b })
+    tested ((stepsFit es b, 41) ∷ []) b (walkListed N (circuit n w) es b (l .after) (l .answer))
 
 -- walking the steps with room for R rows a node
 unfoldable pub walkTable : List ℕ → ℕ → ℕ → List ℕ → ℕ → List Step → WalkLent → WalkOut

@@ -1,20 +1,14 @@
 -- `listing::list_accepted` meets its contract.
-use Prim.Native.Nat.{ℕ, _*_, _≤_}
+use Prim.Native.Nat.{_≤_}
 use mathlib.Core.Path.{_≡_, sym, _∙_}
 use mathlib.Core.Bool.{Bool, true, false, not}
-use native.Mathlib.Omega.{arith}
-use lib.Seq.{length-take-le}
 use borrow.Author.Needs.{needs}
-use Rattle.masks.proofs.Numbers.{product-le}
-use Rattle.masks.proofs.Tests.{along}
 use Rattle.table.specs.Node.{maxNodes}
 use Rattle.weighing.specs.Weights.{fitting}
 use Rattle.circuits.proofs.Accepted.{accepted-e, Accepted}
-use Rattle.lists.specs.Capacity.{maxCapacity}
-use Rattle.insertion.specs.Filled.{bySign}
 use Rattle.listing.specs.Listing.{lent, suffices, Lent}
 use Rattle.listing.proofs.Answers.{lists-short, lists-unweighed, lists-all, lists-lack}
-use Rattle.listing.proofs.Bounds.{nodes-le, enough, not-flip, Enough}
+use Rattle.listing.proofs.Bounds.{nodes-le, not-flip}
 use Rattle.listing.proofs.list_accepted.Statement.{statement}
 use Rattle.listing.proofs.list_accepted.Tie as tie
 
@@ -50,9 +44,6 @@ module _ (e : tie.Else2) where
 
   fits : fitting (first .args .shape .variables) (first .args .weights .now) ≡ true
   fits = weighed (e .before) false (e .if2 .left)
-
-  large : Enough (first .args .shape .nodes) (first .args .shape .capacity) (buffers first)
-  large = enough (first .args .shape .nodes) (first .args .shape .capacity) (buffers first) (along (sym is-enough) tt)
 
 is-enough-requires : tie.Need-is-enough-requires
 is-enough-requires c κs = most (c .before .before .before .before .before .before .before .before)
@@ -95,49 +86,10 @@ returns-2 c =
     lists-unweighed (x .shape .sign) (x .weights .now) (x .shape .variables) (x .shape .nodes) (x .words .now) (x .shape .capacity)
     (buffers s) (s .pre) (tested h false (q .before .if1 .left)) (weighed q true (c .if2 .taken))
 
-mul-total : tie.Need-mul-total
-mul-total c =
-    let e = c .before in
-    let h = first e .args .shape in
-    omega (arith, product-le (h .nodes) (h .capacity) maxNodes maxCapacity (most (first e)) (large e .small))
-
-slice-relend-prefix-list-exact : tie.Need-slice-relend-prefix-list-exact
-slice-relend-prefix-list-exact c = large (c .before) .positives
-
-slice-aggregate-list-exact : tie.Need-slice-aggregate-list-exact
-slice-aggregate-list-exact c =
-    let e = c .before .before in
-    let x = first e .args in
-    sym (length-take-le (x .shape .nodes * x .shape .capacity) (x .positives .now) (large e .positives))
-
-slice-relend-prefix-list-exact-2 : tie.Need-slice-relend-prefix-list-exact-2
-slice-relend-prefix-list-exact-2 c = large (c .before .before) .negatives
-
-slice-aggregate-list-exact-2 : tie.Need-slice-aggregate-list-exact-2
-slice-aggregate-list-exact-2 c =
+list-ready-requires : tie.Need-list-ready-requires
+list-ready-requires c κs =
     let e = c .before .before .before in
-    let x = first e .args in
-    sym (length-take-le (x .shape .nodes * x .shape .capacity) (x .negatives .now) (large e .negatives))
-
-slice-relend-prefix-list-exact-3 : tie.Need-slice-relend-prefix-list-exact-3
-slice-relend-prefix-list-exact-3 c = large (c .before .before .before) .counts
-
-slice-aggregate-list-exact-3 : tie.Need-slice-aggregate-list-exact-3
-slice-aggregate-list-exact-3 c =
-    let e = c .before .before .before .before in
-    let x = first e .args in
-    sym (length-take-le (x .shape .nodes) (x .counts .now) (large e .counts))
-
-list-exact-requires : tie.Need-list-exact-requires
-list-exact-requires c κs =
-    let e = c .before .before .before .before in
-    let s = first e in
-    let x = s .args in
-    let total : ℕ = x .shape .nodes * x .shape .capacity in
-    let l = large e in (
-      (s .pre, l .small, length-take-le (x .shape .nodes) (x .counts .now) (l .counts), fits e),
-      (length-take-le total (x .positives .now) (l .positives), length-take-le total (x .negatives .now) (l .negatives)),
-    )
+    ((first e .pre, fits e), is-enough e)
 
 same-length-7 : tie.Need-same-length-7
 same-length-7 c = search needs
@@ -148,16 +100,18 @@ same-length-8 c = search needs
 same-length-9 : tie.Need-same-length-9
 same-length-9 c = search needs
 
+-- the buffers after the listing
+abbrev after : tie.After-list-ready → Lent
+after p = let l = p .list-ready .last in lent (l .0) (l .1 .0) (l .1 .1 .0)
+
 returns-3 : tie.Need-returns-3
 returns-3 c =
     let p = c .before .before .before .before .before .before .before in
-    let e = p .before .before .before .before .before in
+    let e = p .before .before .before .before in
     let s = first e in
     let x = s .args in
-    let l = p .list-exact .last in
     lists-all (x .shape .sign) (x .weights .now) (x .shape .variables) (x .shape .nodes) (x .words .now) (x .shape .capacity)
-    (buffers s) (s .pre) (is-enough e) (fits e) (bySign (l .0) (l .1 .0)) (l .1 .1 .0) (p .list-exact .result) (p .list-exact .ensures)
-    (c .if3 .taken)
+    (buffers s) (s .pre) (is-enough e) (fits e) (after p) (p .list-ready .result) (p .list-ready .ensures) (c .if3 .taken)
 
 same-length-10 : tie.Need-same-length-10
 same-length-10 c = search needs
@@ -171,13 +125,11 @@ same-length-12 c = search needs
 returns-4 : tie.Need-returns-4
 returns-4 c =
     let p = c .before .before .before .before .before .before .before in
-    let e = p .before .before .before .before .before in
+    let e = p .before .before .before .before in
     let s = first e in
     let x = s .args in
-    let l = p .list-exact .last in
     lists-lack (x .shape .sign) (x .weights .now) (x .shape .variables) (x .shape .nodes) (x .words .now) (x .shape .capacity)
-    (buffers s) (s .pre) (is-enough e) (fits e) (bySign (l .0) (l .1 .0)) (l .1 .1 .0) (p .list-exact .result) (p .list-exact .ensures)
-    (c .if3 .left)
+    (buffers s) (s .pre) (is-enough e) (fits e) (after p) (p .list-ready .result) (p .list-ready .ensures) (c .if3 .left)
 
 pub list-accepted-spec : {M : Type 1} → statement M
 list-accepted-spec =
@@ -193,14 +145,7 @@ list-accepted-spec =
     same-length-5
     same-length-6
     returns-2
-    mul-total
-    slice-relend-prefix-list-exact
-    slice-aggregate-list-exact
-    slice-relend-prefix-list-exact-2
-    slice-aggregate-list-exact-2
-    slice-relend-prefix-list-exact-3
-    slice-aggregate-list-exact-3
-    list-exact-requires
+    list-ready-requires
     same-length-7
     same-length-8
     same-length-9

@@ -15,8 +15,8 @@ use Rattle.lists.specs.Capacity.{maxCapacity}
 use Rattle.insertion.specs.Filled.{masksOf}
 use Rattle.insertion.proofs.Parts.{length-masks}
 use Rattle.listing.proofs.Bounds.{nodes-some, nodes-le}
+use Rattle.listing.proofs.Last.{last-part}
 use Rattle.walk.specs.Ready.{planPrimes}
-use Rattle.walk.proofs.Listed.{last-part}
 use Rattle.walk.proofs.walk_listed.Statement.{statement}
 use Rattle.walk.proofs.walk_listed.Tie as tie
 

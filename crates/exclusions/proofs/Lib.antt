@@ -1,0 +1,3 @@
+pub mod Respects
+pub mod Folding
+pub mod Filtering

@@ -1,0 +1,2 @@
+pub mod Exclusions
+pub mod Partners

@@ -4,11 +4,11 @@
  * examples/list.c is a whole program.
  *
  * Calls. Every function takes any numbers and any contents of the buffers. It ends, and does its work or refuses by a number. A
- * buffer is a pointer and then its length in elements; it may always be longer than needed, but for a list of measurements, for minutes
- * and for the steps of a walk: there the length is the number of entries. The caller must see to three things. No pointer is NULL, not
- * even where the length is 0. It points to at least that many elements. A buffer that is written overlaps no other. No function keeps a
- * pointer or state, and calls from several threads at once do not disturb one another. A call needs at most 512 KiB of stack. Bytes,
- * nodes, measurements and steps are counted from 0.
+ * buffer is a pointer and then its length in elements; it may always be longer than needed, but for a list of measurements, for minutes,
+ * for pairs and for the steps of a walk: there the length is the number of entries. The caller must see to three things. No pointer is
+ * NULL, not even where the length is 0. It points to at least that many elements. A buffer that is written overlaps no other. No
+ * function keeps a pointer or state, and calls from several threads at once do not disturb one another. A call needs at most 512 KiB of
+ * stack. Bytes, nodes, measurements and steps are counted from 0.
  *
  * Vocabulary. A fact of the trade is a variable here, a stow an assignment, a row a term, a mark a literal, a clearance a prime
  * implicant, a blocker a prime implicant of the negation, the room a capacity, a reading a measurement. An assignment is a mask: bit i
@@ -40,7 +40,7 @@ extern "C" {
 #endif
 
 /* The version. It is raised whenever this header or an answer of the archive changes. quelbrift_version() gives the archive's. */
-#define QUELBRIFT_VERSION 6
+#define QUELBRIFT_VERSION 7
 
 /* The limits. */
 #define QUELBRIFT_MAX_VARIABLES 40   /* the variables of a table: 1 to 40 */
@@ -61,7 +61,9 @@ extern "C" {
  *     sink                     QUELBRIFT_MAX_TEXT, 110,000: every well-formed table's text fits; the longest has 96,511 bytes
  *     positives and negatives  QUELBRIFT_ENTRIES(QUELBRIFT_MAX_NODES, QUELBRIFT_MAX_CAPACITY), 4,194,304 each (32 MiB each)
  *     counts                   QUELBRIFT_MAX_NODES, 1,024
+ *     shown_positives and shown_negatives  QUELBRIFT_MAX_CAPACITY, 4,096 each: as many as the capacity
  *     minutes                  QUELBRIFT_MAX_VARIABLES, 40: exactly one a variable, so a longer list is refused, and a shorter one too
+ *     pairs                    780, every two of 40 variables; a longer list repeats some, and is taken
  *     measurements             QUELBRIFT_MAX_VARIABLES, 40: one a variable at most, so a longer list is refused
  *     steps, statuses and compatibles  QUELBRIFT_MAX_STEPS, 256
  */
@@ -123,8 +125,8 @@ enum {
     QUELBRIFT_ASSIGNMENT = 31,  /* a bit at the number of variables or above */
     QUELBRIFT_NOT_TERM = 32,    /* such a bit, or one in both masks */
     QUELBRIFT_UNSATISFIED = 33, /* the assignment is not allowed */
-    QUELBRIFT_BUFFERS = 41,     /* a capacity above 4,096, a row buffer below nodes * capacity, counts below nodes, or, in a walk,
-                                   statuses or compatibles below the number of steps */
+    QUELBRIFT_BUFFERS = 41,     /* a capacity above 4,096, a row buffer below nodes * capacity, counts below nodes, a buffer of the
+                                   shown list below the capacity, or, in a walk, statuses or compatibles below the number of steps */
     QUELBRIFT_CAPACITY = 42,    /* more prime implicants, of the circuit or of the negation as listed, than the capacity */
     /* of an assignment line, with the byte */
     QUELBRIFT_LINE_SHAPE = 51, /* wrong shape, placed as 11 */
@@ -137,7 +139,9 @@ enum {
                                      its opening bracket, or step 256 */
     QUELBRIFT_STEP_VARIABLE = 55, /* a variable out of range; the byte after the number, or the step */
     /* of the minutes; the place is 0 */
-    QUELBRIFT_MINUTES = 56 /* not exactly one entry for each variable, or an entry above 1,000 */
+    QUELBRIFT_MINUTES = 56, /* not exactly one entry for each variable, or an entry above 1,000 */
+    /* of the pairs; the place is 0 */
+    QUELBRIFT_PAIRS = 57 /* a pair that is incomplete, has one variable twice, or a variable out of range */
 };
 
 /* A text for each number, for messages. */
@@ -168,6 +172,7 @@ static inline const char *quelbrift_text(uint32_t number)
     case QUELBRIFT_STEP_SHAPE: return "the loading script has the wrong shape, or a step too many";
     case QUELBRIFT_STEP_VARIABLE: return "a fact of the loading script is out of range";
     case QUELBRIFT_MINUTES: return "the minutes are not one entry for each fact, or an entry is above 1,000";
+    case QUELBRIFT_PAIRS: return "a pair is incomplete, names a fact twice, or one that is out of range";
     default: return "no number of Quelbrift";
     }
 }
@@ -261,20 +266,32 @@ quelbrift_answer quelbrift_reduce(const uint32_t *words, size_t words_length, ui
  * marked variables, as a number; then the smaller positive mask. minutes[i] are those of variable i, 0 to 1,000, whether it is marked yes
  * or no; the minutes are only read. Which rows are listed does not depend on them. Where all are 0, as where all are the same, fewer
  * marks come first.
- * Done: no value. No count is above the last node's.
+ * quelbrift_list alone takes pairs of variables that cannot both be true (facts that exclude each other), and makes a shown list. Pair i
+ * is firsts[i] and seconds[i]; the two lists are only read, and may be empty. The shown list is the last node's rows in their order,
+ * without each that marks both variables of a pair yes; one that marks the one yes and the other no stays. Which variable of a pair comes
+ * first, and how often a pair is there, does not matter; without pairs all rows are shown. The masks go to shown_positives and
+ * shown_negatives, from index 0 on; the other ones of the first `capacity` entries are 0, later entries are unchanged. The rows of nodes,
+ * the counts and 42 are about all clearances, whatever the pairs are. No other function reads the shown list or makes it again: after any
+ * other call on the same rows an older shown list is stale.
+ * Done: for quelbrift_list, first is the number of rows of the shown list; for quelbrift_list_negation there is no value. No count is
+ * above the last node's.
  * Refuses: 21 to 25, then 41, then 56, where minutes_length is not the number of variables or an entry is above 1,000, so an empty list
- * too; all buffers are unchanged then. Then 42, exactly where the circuit has more clearances (for quelbrift_list_negation: blockers)
- * than the capacity; the first nodes * capacity entries of both row buffers and the first `nodes` counts are 0 then, later ones
- * unchanged. Start with a small capacity, and after 42 try a larger one, up to 4,096. A circuit may be refused by 42 for the one listing
- * and done for the other.
+ * too, then, for quelbrift_list, 57, where firsts_length is not seconds_length, a pair has one variable twice, or a variable is out of
+ * range; all buffers are unchanged then. Then 42, exactly where the circuit has more clearances (for quelbrift_list_negation: blockers)
+ * than the capacity, even if the shown list would fit; the first nodes * capacity entries of both row buffers, the first `nodes` counts
+ * and the first `capacity` entries of both buffers of the shown list are 0 then, later ones unchanged. Start with a small capacity, and
+ * after 42 try a larger one, up to 4,096. A circuit may be refused by 42 for the one listing and done for the other.
  * Time: the circuits measured (docs/PERFORMANCE.md) take milliseconds, and the worst tables made to be slow took seconds. The worst time
  * grows with the third power of the capacity at each pick, 64 entries at a time. Minutes that are not all 0 add about 5 ns a row of each
- * node. A call cannot be interrupted; a smaller capacity bounds it.
+ * node. Pairs take one step each and then, for each row of the last node, at most one test a variable, however many they are. A call
+ * cannot be interrupted; a smaller capacity bounds it.
  */
 quelbrift_answer quelbrift_list(const uint32_t *words, size_t words_length, uint32_t variables, uint32_t nodes,
-                                const uint32_t *minutes, size_t minutes_length, uint32_t capacity, uint64_t *positives,
+                                const uint32_t *minutes, size_t minutes_length, const uint32_t *firsts, size_t firsts_length,
+                                const uint32_t *seconds, size_t seconds_length, uint32_t capacity, uint64_t *positives,
                                 size_t positives_length, uint64_t *negatives, size_t negatives_length, uint32_t *counts,
-                                size_t counts_length);
+                                size_t counts_length, uint64_t *shown_positives, size_t shown_positives_length,
+                                uint64_t *shown_negatives, size_t shown_negatives_length);
 quelbrift_answer quelbrift_list_negation(const uint32_t *words, size_t words_length, uint32_t variables, uint32_t nodes,
                                          const uint32_t *minutes, size_t minutes_length, uint32_t capacity, uint64_t *positives,
                                          size_t positives_length, uint64_t *negatives, size_t negatives_length, uint32_t *counts,
@@ -306,16 +323,17 @@ quelbrift_answer quelbrift_read_script(const uint8_t *text, size_t text_length, 
                                        size_t list_length);
 
 /*
- * Walks a loading script through a circuit: lists the clearances of every node, as quelbrift_list does by the same minutes and into the
- * same buffers, and then takes the steps one after the other. At first nothing is known. A step sets its variable, whatever an earlier
+ * Walks a loading script through a circuit: lists the clearances of every node, as quelbrift_list does by the same minutes into rows and
+ * counts, and then takes the steps one after the other. At first nothing is known. A step sets its variable, whatever an earlier
  * step said of it, or makes it unknown again. What is known is a partial assignment. The minutes order the rows and change nothing else.
+ * There are no pairs and no shown list here: all clearances count.
  * Done: statuses[i] is QUELBRIFT_ALLOWED, QUELBRIFT_FORBIDDEN or QUELBRIFT_OPEN, as quelbrift_evaluate_partial says of what is known
  * after step i, and compatibles[i] is the number of the circuit's clearances (those of the last node) that contradict none of it: 0
  * exactly where the status is QUELBRIFT_FORBIDDEN. Entries at list_length and later are unchanged. first is 1 where from some step to
  * the last every status is QUELBRIFT_ALLOWED, and second is the first such step; else both are 0.
  * Refuses: 21 to 25; then, with the lowest wrong step, 54 for an act above 2, or for step 256, or 55 for a variable out of range, 54 if
- * both; then 41, for the listing's buffers or where statuses or compatibles are shorter than the list; then 56, as quelbrift_list does.
- * All five buffers are unchanged then. Then 42: rows and counts as quelbrift_list leaves them, statuses and compatibles unchanged.
+ * both; then 41, for the capacity, rows or counts, or where statuses or compatibles are shorter than the list; then 56, as quelbrift_list
+ * does. All five buffers are unchanged then. Then 42: rows and counts as quelbrift_list leaves them, statuses and compatibles unchanged.
  * Time: that of one listing; for each step a pass over the nodes, and one over the circuit's clearances.
  */
 quelbrift_answer quelbrift_walk(const uint32_t *words, size_t words_length, uint32_t variables, uint32_t nodes,

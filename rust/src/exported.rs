@@ -3,23 +3,6 @@
 use crate::answer::Answer;
 use crate::Step;
 
-/// The two listings have one type.
-pub type Listing = unsafe extern "C" fn(
-    *const u32,
-    usize,
-    u32,
-    u32,
-    *const u32,
-    usize,
-    u32,
-    *mut u64,
-    usize,
-    *mut u64,
-    usize,
-    *mut u32,
-    usize,
-) -> Answer;
-
 extern "C" {
     pub fn quelbrift_version() -> u32;
     pub fn quelbrift_read(text: *const u8, length: usize, words: *mut u32, room: usize) -> Answer;
@@ -53,6 +36,10 @@ extern "C" {
         nodes: u32,
         weights: *const u32,
         weights_length: usize,
+        firsts: *const u32,
+        firsts_length: usize,
+        seconds: *const u32,
+        seconds_length: usize,
         capacity: u32,
         positives: *mut u64,
         positives_length: usize,
@@ -60,6 +47,10 @@ extern "C" {
         negatives_length: usize,
         counts: *mut u32,
         counts_length: usize,
+        shown_positives: *mut u64,
+        shown_positives_length: usize,
+        shown_negatives: *mut u64,
+        shown_negatives_length: usize,
     ) -> Answer;
     pub fn quelbrift_list_negation(
         words: *const u32,

@@ -8,7 +8,7 @@ mod refusal;
 pub use refusal::{Place, Refusal};
 
 /// The version that this wrapper is written for; `version` gives the archive's.
-pub const VERSION: u32 = 6;
+pub const VERSION: u32 = 7;
 
 /// The limits of the header, where weights are called minutes.
 pub const MAX_VARIABLES: u32 = 40;
@@ -82,7 +82,17 @@ pub struct Step {
     pub act: u32,
 }
 
-/// The lent buffers of a walk: those of a listing, and two with an entry a step, for the verdict and for how many clearances are left.
+/// The lent buffers of a listing of clearances: the rows of every node, the counts, and two for the shown list.
+#[derive(Debug)]
+pub struct ListBuffers<'a> {
+    pub positives: &'a mut [u64],
+    pub negatives: &'a mut [u64],
+    pub counts: &'a mut [u32],
+    pub shown_positives: &'a mut [u64],
+    pub shown_negatives: &'a mut [u64],
+}
+
+/// The lent buffers of a walk: rows and counts, and two with an entry a step, for the verdict and for how many clearances are left.
 #[derive(Debug)]
 pub struct WalkBuffers<'a> {
     pub positives: &'a mut [u64],
@@ -184,9 +194,50 @@ pub fn reduce(table: Table, assignment: u64) -> Result<Term, Refusal> {
     Ok(Term { positive, negative })
 }
 
-/// One of the two listings.
-fn listed(
-    listing: exported::Listing,
+/// Lists the clearances of every node, by the weights (the minutes of the facts, one each): how many of the circuit's are shown, which are
+/// all but those that mark both facts of a pair yes. A pair is a first and a second fact, one a position.
+pub fn list(
+    table: Table,
+    weights: &[u32],
+    firsts: &[u32],
+    seconds: &[u32],
+    capacity: u32,
+    buffers: ListBuffers,
+) -> Result<usize, Refusal> {
+    let Table { words, variables, nodes } = table;
+    let ListBuffers { positives, negatives, counts, shown_positives, shown_negatives } = buffers;
+    let answer = unsafe {
+        exported::quelbrift_list(
+            words.as_ptr(),
+            words.len(),
+            variables,
+            nodes,
+            weights.as_ptr(),
+            weights.len(),
+            firsts.as_ptr(),
+            firsts.len(),
+            seconds.as_ptr(),
+            seconds.len(),
+            capacity,
+            positives.as_mut_ptr(),
+            positives.len(),
+            negatives.as_mut_ptr(),
+            negatives.len(),
+            counts.as_mut_ptr(),
+            counts.len(),
+            shown_positives.as_mut_ptr(),
+            shown_positives.len(),
+            shown_negatives.as_mut_ptr(),
+            shown_negatives.len(),
+        )
+    };
+    let shown = answer.value()?;
+    assert!(shown <= u64::from(capacity), "at most the capacity: {answer:?}");
+    Ok(shown as usize)
+}
+
+/// Lists the blockers of every node, by the weights: the clearances of its negation.
+pub fn list_negation(
     table: Table,
     weights: &[u32],
     capacity: u32,
@@ -196,7 +247,7 @@ fn listed(
 ) -> Result<(), Refusal> {
     let Table { words, variables, nodes } = table;
     unsafe {
-        listing(
+        exported::quelbrift_list_negation(
             words.as_ptr(),
             words.len(),
             variables,
@@ -213,30 +264,6 @@ fn listed(
         )
     }
     .nothing()
-}
-
-/// Lists the clearances of every node, by the weights (the minutes of the facts, one each).
-pub fn list(
-    table: Table,
-    weights: &[u32],
-    capacity: u32,
-    positives: &mut [u64],
-    negatives: &mut [u64],
-    counts: &mut [u32],
-) -> Result<(), Refusal> {
-    listed(exported::quelbrift_list, table, weights, capacity, positives, negatives, counts)
-}
-
-/// Lists the blockers of every node, by the weights: the clearances of its negation.
-pub fn list_negation(
-    table: Table,
-    weights: &[u32],
-    capacity: u32,
-    positives: &mut [u64],
-    negatives: &mut [u64],
-    counts: &mut [u32],
-) -> Result<(), Refusal> {
-    listed(exported::quelbrift_list_negation, table, weights, capacity, positives, negatives, counts)
 }
 
 /// The part of a row buffer that holds the first `count` entries of a node.

@@ -62,6 +62,7 @@ impl Refusal {
             54 => "the loading script has the wrong shape, or a step too many",
             55 => "a fact of the loading script is out of range",
             56 => "the minutes are not one entry for each fact, or an entry is above 1,000",
+            57 => "a pair is incomplete, names a fact twice, or one that is out of range",
             _ => "no number of Quelbrift",
         }
     }

@@ -1,7 +1,7 @@
 //! The wrapper says what `include/quelbrift.h` says: numbers with their texts, limits, verdicts, acts, version. A refusal is shown in
-//! full, the longest line read, a half-known stow judged, rows listed by weights, and a loading script read and walked.
+//! full, the longest line read, a half-known stow judged, rows listed by weights and shown by pairs, and a loading script read and walked.
 
-use quelbrift::{Completions, Refusal, Step, Table, Term, Verdict, WalkBuffers};
+use quelbrift::{Completions, ListBuffers, Refusal, Step, Table, Term, Verdict, WalkBuffers};
 use std::collections::HashMap;
 
 const HEADER: &str = include_str!("../../include/quelbrift.h");
@@ -27,7 +27,7 @@ fn limit(name: &str) -> u64 {
 #[test]
 fn texts_are_those_of_the_header() {
     let (numbers, texts) = (numbers(), texts());
-    assert_eq!(numbers.len(), 24);
+    assert_eq!(numbers.len(), 25);
     assert_eq!(texts.len(), numbers.len());
     for (name, number) in numbers {
         if number != 0 {
@@ -72,7 +72,7 @@ fn acts_are_those_of_the_header() {
 
 #[test]
 fn versions_agree() {
-    assert_eq!(quelbrift::VERSION, 6);
+    assert_eq!(quelbrift::VERSION, 7);
     assert_eq!(u64::from(quelbrift::VERSION), limit("VERSION"));
     assert_eq!(quelbrift::version(), quelbrift::VERSION);
 }
@@ -91,6 +91,7 @@ fn a_refusal_is_shown_with_its_place() {
     assert_eq!(shown(55, 0), "refused 55 at byte or step 0: a fact of the loading script is out of range");
     assert_eq!(shown(42, 0), "refused 42: the list has more rows than the room");
     assert_eq!(shown(56, 0), "refused 56: the minutes are not one entry for each fact, or an entry is above 1,000");
+    assert_eq!(shown(57, 0), "refused 57: a pair is incomplete, names a fact twice, or one that is out of range");
 }
 
 /// A refusal is an error like any other.
@@ -137,6 +138,30 @@ fn words(nodes: &[&[u32]]) -> Vec<u32> {
 
 type Listing = fn(Table, &[u32], u32, &mut [u64], &mut [u64], &mut [u32]) -> Result<(), Refusal>;
 
+/// The listing of clearances without pairs.
+fn list_all(
+    table: Table,
+    weights: &[u32],
+    capacity: u32,
+    positives: &mut [u64],
+    negatives: &mut [u64],
+    counts: &mut [u32],
+) -> Result<(), Refusal> {
+    let (mut shown_positives, mut shown_negatives) = ([7; 3], [7; 3]);
+    let buffers = ListBuffers {
+        positives: &mut *positives,
+        negatives: &mut *negatives,
+        counts: &mut *counts,
+        shown_positives: &mut shown_positives,
+        shown_negatives: &mut shown_negatives,
+    };
+    let shown = quelbrift::list(table, weights, &[], &[], capacity, buffers)?;
+    let last = |buffer| quelbrift::view(buffer, capacity, table.nodes - 1, shown as u32);
+    assert_eq!(shown, counts[counts.len() - 1] as usize);
+    assert_eq!((&shown_positives[..shown], &shown_negatives[..shown]), (last(positives), last(negatives)));
+    Ok(())
+}
+
 /// The rows of the last of five nodes as pairs of masks, or the refusal; a refusal but 42 leaves the buffers as they were.
 fn listed(list: Listing, table: Table, weights: &[u32], capacity: u32) -> Result<Vec<(u64, u64)>, Refusal> {
     let (mut positives, mut negatives, mut counts) = ([7; 10], [7; 10], [7; 5]);
@@ -161,9 +186,7 @@ fn rows_are_listed_by_weights() {
         ([1, 0, 0], [true, false]),
         ([0, 0, 1], [false, true]),
     ] {
-        for (list, mut rows, turned) in
-            [(quelbrift::list as Listing, clearances, turned[0]), (quelbrift::list_negation, blockers, turned[1])]
-        {
+        for (list, mut rows, turned) in [(list_all as Listing, clearances, turned[0]), (quelbrift::list_negation, blockers, turned[1])] {
             if turned {
                 rows.reverse();
             }
@@ -171,7 +194,7 @@ fn rows_are_listed_by_weights() {
         }
     }
     let refused = |number| Err(Refusal { number, place: 0 });
-    for list in [quelbrift::list as Listing, quelbrift::list_negation] {
+    for list in [list_all as Listing, quelbrift::list_negation] {
         for wrong in [&[0, 0, 1001][..], &[1001, 0, 0], &[0, 0], &[0, 0, 0, 0], &[]] {
             assert_eq!(listed(list, table, wrong, 2), refused(56), "{wrong:?}");
             assert_eq!(listed(list, table, wrong, 1), refused(56), "{wrong:?}");
@@ -179,6 +202,45 @@ fn rows_are_listed_by_weights() {
         }
         assert_eq!(listed(list, table, &[0, 0, 0], 1), refused(42));
     }
+}
+
+/// `(both (pick 0 (yes 1) (true)) (yes 2))`: clearances +0 +2 and +1 +2.
+#[test]
+fn rows_are_shown_by_pairs() {
+    let words = words(&[&[2, 1], &[1], &[4, 0, 2, 0, 1], &[2, 2], &[5, 0, 2, 2, 3]]);
+    let table = Table { words: &words, variables: 3, nodes: 5 };
+    // The answer, and the positive masks of the last node and of the shown list; the negative ones are 0 or as they were.
+    let shown = |weights: &[u32], firsts: &[u32], seconds: &[u32], capacity: u32, lent: [usize; 2]| {
+        let (mut positives, mut negatives, mut counts) = ([7; 10], [7; 10], [7; 5]);
+        let (mut shown_positives, mut shown_negatives) = ([7; 3], [7; 3]);
+        let buffers = ListBuffers {
+            positives: &mut positives,
+            negatives: &mut negatives,
+            counts: &mut counts,
+            shown_positives: &mut shown_positives[..lent[0]],
+            shown_negatives: &mut shown_negatives[..lent[1]],
+        };
+        let answer = quelbrift::list(table, weights, firsts, seconds, capacity, buffers);
+        assert_eq!(shown_negatives.map(|mask| mask == 7), shown_positives.map(|mask| mask == 7));
+        (answer, [positives[8], positives[9]], shown_positives)
+    };
+    let by_pairs = |firsts: &[u32], seconds: &[u32]| shown(&[0, 0, 0], firsts, seconds, 2, [2, 3]);
+    let done = |shown, masks| (Ok(shown), [5, 6], masks);
+    assert_eq!(by_pairs(&[], &[]), done(2, [5, 6, 7]));
+    assert_eq!(by_pairs(&[0], &[1]), done(2, [5, 6, 7]));
+    assert_eq!(by_pairs(&[0], &[2]), done(1, [6, 0, 7]));
+    assert_eq!(by_pairs(&[2, 2], &[1, 1]), done(1, [5, 0, 7]));
+    assert_eq!(by_pairs(&[2, 2], &[1, 0]), done(0, [0, 0, 7]));
+    assert_eq!(shown(&[3, 1, 9], &[0], &[1], 2, [3, 2]), (Ok(2), [6, 5], [6, 5, 7]));
+    let refused = |number| (Err(Refusal { number, place: 0 }), [7, 7], [7; 3]);
+    for (firsts, seconds) in [(&[1][..], &[1][..]), (&[0, 3], &[2, 0]), (&[0], &[u32::MAX]), (&[0, 1], &[2]), (&[], &[1])] {
+        assert_eq!(by_pairs(firsts, seconds), refused(57), "{firsts:?}, {seconds:?}");
+        assert_eq!(shown(&[0, 0, 0], firsts, seconds, 1, [1, 1]), refused(57), "{firsts:?}, {seconds:?}");
+        assert_eq!(shown(&[0, 0], firsts, seconds, 2, [2, 2]), refused(56), "{firsts:?}, {seconds:?}");
+        assert_eq!(shown(&[0, 0, 0], firsts, seconds, 2, [2, 1]), refused(41), "{firsts:?}, {seconds:?}");
+        assert_eq!(shown(&[0, 0, 0], firsts, seconds, 2, [1, 2]), refused(41), "{firsts:?}, {seconds:?}");
+    }
+    assert_eq!(shown(&[0, 0, 0], &[0], &[2], 1, [3, 3]), (Err(Refusal { number: 42, place: 0 }), [7, 7], [0, 7, 7]));
 }
 
 const UNUSED: Step = Step { variable: 77, act: 77 };

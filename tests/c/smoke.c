@@ -510,8 +510,6 @@ typedef quelbrift_answer listing(const uint32_t *words, size_t words_length, uin
                                  size_t positives_length, uint64_t *negatives, size_t negatives_length, uint32_t *counts,
                                  size_t counts_length);
 
-static listing *const listings[] = {quelbrift_list, quelbrift_list_negation};
-
 /* Minutes as they are lent: how many, and the list, longer than any call here needs. */
 typedef struct {
     size_t length;
@@ -524,6 +522,65 @@ typedef struct {
     uint64_t negatives[96];
     uint32_t counts[12];
 } buffers;
+
+/* Pairs as they are lent: the lengths of the two lists, and the lists, longer than most calls here need. */
+#define MORE_PAIRS 8
+typedef struct {
+    size_t lengths[2];
+    uint32_t firsts[MORE_PAIRS];
+    uint32_t seconds[MORE_PAIRS];
+} pairs;
+
+static const pairs no_pairs;
+
+/* The buffers of a listing with a shown list, longer than any call here needs. */
+#define MORE_SHOWN 16
+typedef struct {
+    buffers listed;
+    uint64_t positives[MORE_SHOWN];
+    uint64_t negatives[MORE_SHOWN];
+} shown_buffers;
+
+static shown_buffers shown;
+
+/* Whether the shown list holds these entries, and after them what it held before. */
+static int shown_is(const uint64_t *positives, const uint64_t *negatives, size_t count)
+{
+    return memcmp(shown.positives, positives, count * 8) == 0 && memcmp(shown.negatives, negatives, count * 8) == 0
+        && all_bytes(shown.positives + count, sizeof shown.positives - count * 8, 0xa5)
+        && all_bytes(shown.negatives + count, sizeof shown.negatives - count * 8, 0xa5);
+}
+
+/* Whether the first entries of the shown list are 0, and the later ones what they were. */
+static int shown_zeroed(size_t count)
+{
+    static const uint64_t zeros[MORE_SHOWN];
+    return shown_is(zeros, zeros, count);
+}
+
+/* The listing of clearances without pairs: the shown list is that of the last node; 0 after 42; as it was after any other refusal. */
+static quelbrift_answer list_clearances(const uint32_t *words, size_t words_length, uint32_t variables, uint32_t nodes,
+                                        const uint32_t *minutes, size_t minutes_length, uint32_t capacity, uint64_t *positives,
+                                        size_t positives_length, uint64_t *negatives, size_t negatives_length, uint32_t *counts,
+                                        size_t counts_length)
+{
+    const size_t length = capacity < MORE_SHOWN ? capacity : MORE_SHOWN;
+    memset(&shown, 0xa5, sizeof shown);
+    quelbrift_answer answer = quelbrift_list(words, words_length, variables, nodes, minutes, minutes_length, no_pairs.firsts, 0,
+                                             no_pairs.seconds, 0, capacity, positives, positives_length, negatives, negatives_length,
+                                             counts, counts_length, shown.positives, length, shown.negatives, length);
+    if (answer.number == QUELBRIFT_DONE) {
+        const size_t last = (size_t)(nodes - 1) * capacity;
+        EXPECT(answer.first == counts[nodes - 1]);
+        EXPECT(shown_is(positives + last, negatives + last, capacity));
+        answer.first = 0;
+    } else {
+        EXPECT(shown_zeroed(answer.number == QUELBRIFT_CAPACITY ? capacity : 0));
+    }
+    return answer;
+}
+
+static listing *const listings[] = {list_clearances, quelbrift_list_negation};
 
 static quelbrift_answer list_by(listing *lists, const minutes *by, buffers *lent, const table *circuit, uint32_t capacity, size_t rows,
                                 size_t negatives, size_t counts)
@@ -592,7 +649,7 @@ static const uint32_t worked_counts[5] = {1, 1, 1, 2, 4};
 
 static void check_list(void)
 {
-    check_listed(quelbrift_list, &worked, 4, worked_positives, worked_negatives, worked_counts);
+    check_listed(list_clearances, &worked, 4, worked_positives, worked_negatives, worked_counts);
 }
 
 /* Just enough room, and room for one more; the four clearances fit neither. */
@@ -632,7 +689,7 @@ static void check_refusals_of(listing *lists, const table *none, const table *on
 static void check_list_refusals(void)
 {
     const table never = {1, 1, 11, {{0}}, 0, 0}, always = {1, 1, 11, {{1}}, 0, 0};
-    check_refusals_of(quelbrift_list, &never, &always, 3);
+    check_refusals_of(list_clearances, &never, &always, 3);
     call = 0;
     check_refusals_of(quelbrift_list_negation, &always, &never, 1);
 }
@@ -669,9 +726,9 @@ static void check_eight_listed(void)
     static const uint64_t blocker_negatives[88] = {[0] = 1, [8] = 4, [24] = 6, [80] = 1, [87] = 6};
     static const uint32_t blocker_counts[11] = {1, 1, 0, 1, 1, 1, 1, 1, 1, 1, 8};
     buffers lent;
-    check_listed(quelbrift_list, &eight, 2, positives, negatives, counts);
+    check_listed(list_clearances, &eight, 2, positives, negatives, counts);
     check_listed(quelbrift_list_negation, &eight, 8, blocker_positives, blocker_negatives, blocker_counts);
-    EXPECT_REFUSED(list(quelbrift_list, &lent, &eight, 1, 11, 11, 11), QUELBRIFT_CAPACITY, 0);
+    EXPECT_REFUSED(list(list_clearances, &lent, &eight, 1, 11, 11, 11), QUELBRIFT_CAPACITY, 0);
     EXPECT(zeroed(&lent, 11, 11));
     for (uint32_t capacity = 0; capacity < 8; capacity++) {
         EXPECT_REFUSED(list(quelbrift_list_negation, &lent, &eight, capacity, 88, 88, 11), QUELBRIFT_CAPACITY, 0);
@@ -748,7 +805,7 @@ static void check_minutes_of_eight(void)
         [80] = 128, [81] = 256, [83] = 32, [84] = 64, [85] = 8, [86] = 16};
     static const uint64_t blocker_negatives[88] = {[0] = 1, [8] = 4, [24] = 6, [82] = 6, [87] = 1};
     static const uint32_t blocker_counts[11] = {1, 1, 0, 1, 1, 1, 1, 1, 1, 1, 8};
-    check_listed_by(quelbrift_list, &by, &eight, 2, positives, negatives, counts);
+    check_listed_by(list_clearances, &by, &eight, 2, positives, negatives, counts);
     check_listed_by(quelbrift_list_negation, &by, &eight, 8, blocker_positives, blocker_negatives, blocker_counts);
 }
 
@@ -890,9 +947,9 @@ static void check_minutes_taken_by(listing *lists, uint32_t needed)
 
 static void check_minutes_refusals(void)
 {
-    check_minutes_refusals_of(quelbrift_list);
+    check_minutes_refusals_of(list_clearances);
     check_minutes_refusals_of(quelbrift_list_negation);
-    check_minutes_taken_by(quelbrift_list, 4);
+    check_minutes_taken_by(list_clearances, 4);
     check_minutes_taken_by(quelbrift_list_negation, 2);
 }
 
@@ -974,7 +1031,7 @@ static size_t list_wide(listing *lists, const minutes *by, uint32_t capacity, ui
 /* The clearance with +38 first, or that with -39. */
 static void check_wide_clearances(const minutes *by, int with_38_first)
 {
-    const size_t start = list_wide(quelbrift_list, by, 2, 2), with_38 = with_38_first ? start : start + 1, other = 2 * start + 1 - with_38;
+    const size_t start = list_wide(list_clearances, by, 2, 2), with_38 = with_38_first ? start : start + 1, other = 2 * start + 1 - with_38;
     EXPECT(wide_positives[with_38] == (wide_even | wide_38) && wide_negatives[with_38] == wide_odd);
     EXPECT(wide_positives[other] == wide_even && wide_negatives[other] == (wide_odd | wide_39));
 }
@@ -1034,6 +1091,468 @@ static void check_minutes_of_wide(void)
     by.entries[38] = by.entries[39] = 490;
     check_wide_clearances(&by, 1);
     check_wide_blockers(&by, 0, 18);
+}
+
+/* The lengths of the five buffers of a listing of clearances. */
+typedef struct {
+    size_t positives, negatives, counts, shown_positives, shown_negatives;
+} shown_lengths;
+
+static quelbrift_answer show_by(const minutes *by, const pairs *apart, const table *circuit, uint32_t capacity, shown_lengths lengths)
+{
+    memset(&shown, 0xa5, sizeof shown);
+    return quelbrift_list(TABLE(circuit), by->entries, by->length, apart->firsts, apart->lengths[0], apart->seconds, apart->lengths[1],
+                          capacity, shown.listed.positives, lengths.positives, shown.listed.negatives, lengths.negatives,
+                          shown.listed.counts, lengths.counts, shown.positives, lengths.shown_positives, shown.negatives,
+                          lengths.shown_negatives);
+}
+
+/* Buffers just long enough, and longer than any call here needs. */
+static shown_lengths enough_shown(const table *circuit, uint32_t capacity)
+{
+    const size_t rows = (size_t)circuit->nodes * capacity;
+    return (shown_lengths){rows, rows, circuit->nodes, capacity, capacity};
+}
+
+static const shown_lengths longest_shown = {96, 96, 12, MORE_SHOWN, MORE_SHOWN};
+
+/* Without minutes, and with buffers just enough. */
+static quelbrift_answer show(const pairs *apart, const table *circuit, uint32_t capacity)
+{
+    const minutes none = no_minutes(circuit);
+    return show_by(&none, apart, circuit, capacity, enough_shown(circuit, capacity));
+}
+
+/* Whether no buffer was written. */
+static int shown_untouched(void)
+{
+    return all_bytes(&shown, sizeof shown, 0xa5);
+}
+
+/* A listing by pairs: rows and counts are those without pairs, and of the last node's rows those at these places are shown. */
+static void check_shown(const minutes *by, const pairs *apart, const table *circuit, uint32_t capacity, const char *places)
+{
+    const size_t count = strlen(places), last = (size_t)(circuit->nodes - 1) * capacity;
+    shown_lengths longer = enough_shown(circuit, capacity);
+    longer.shown_positives += 2;
+    longer.shown_negatives += 1;
+    const shown_lengths lengths[] = {enough_shown(circuit, capacity), longer, longest_shown};
+    uint64_t positives[MORE_SHOWN] = {0}, negatives[MORE_SHOWN] = {0};
+    buffers all;
+    EXPECT_DONE(list_fitting(list_clearances, by, &all, circuit, capacity), 0, 0);
+    for (size_t row = 0; row < count; row++) {
+        positives[row] = all.positives[last + (size_t)(places[row] - '0')];
+        negatives[row] = all.negatives[last + (size_t)(places[row] - '0')];
+    }
+    for (size_t i = 0; i < LENGTH(lengths); i++) {
+        EXPECT_DONE(show_by(by, apart, circuit, capacity, lengths[i]), count, 0);
+        EXPECT(memcmp(&shown.listed, &all, sizeof all) == 0);
+        EXPECT(shown_is(positives, negatives, capacity));
+    }
+}
+
+/* The masks of one shown list: of `worked`, where variables 1 and 0 exclude each other, in room for four and for six. */
+static void check_shown_masks(void)
+{
+    static const pairs apart = {{1, 1}, {1}, {0}};
+    static const uint64_t positives[6] = {0, 5, 4}, negatives[6] = {3, 0, 2};
+    EXPECT_DONE(show(&apart, &worked, 4), 3, 0);
+    EXPECT(shown_is(positives, negatives, 4));
+    EXPECT(memcmp(shown.listed.positives, worked_positives, sizeof worked_positives) == 0);
+    EXPECT(memcmp(shown.listed.negatives, worked_negatives, sizeof worked_negatives) == 0);
+    EXPECT(memcmp(shown.listed.counts, worked_counts, sizeof worked_counts) == 0);
+    EXPECT_DONE(show(&apart, &worked, 6), 3, 0);
+    EXPECT(shown_is(positives, negatives, 6));
+    EXPECT(shown.listed.counts[4] == 4);
+}
+
+/* Only two marks of yes leave a row out, whichever comes first, once or often. Clearances of `worked`: -0 -1, +0 +1, +0 +2, -1 +2, and by
+   the minutes here -1 +2, -0 -1, +0 +1, +0 +2; of `eight`: +0 +1 and +0 +2, each with -3 to -8; of `mixed` none has two marks of yes. */
+static void check_pairs(void)
+{
+    static const struct {
+        const table *circuit;
+        minutes by;
+        pairs apart;
+        const char *places;
+    } calls[] = {
+        {&worked, {3, {0}}, {{0, 0}, {0}, {0}}, "0123"},
+        {&worked, {3, {0}}, {{1, 1}, {0}, {1}}, "023"},
+        {&worked, {3, {0}}, {{1, 1}, {1}, {0}}, "023"},
+        {&worked, {3, {0}}, {{1, 1}, {0}, {2}}, "013"},
+        {&worked, {3, {0}}, {{1, 1}, {2}, {0}}, "013"},
+        {&worked, {3, {0}}, {{1, 1}, {1}, {2}}, "0123"},
+        {&worked, {3, {0}}, {{1, 1}, {2}, {1}}, "0123"},
+        {&worked, {3, {0}}, {{2, 2}, {0, 0}, {1, 2}}, "03"},
+        {&worked, {3, {0}}, {{2, 2}, {1, 0}, {0, 2}}, "03"},
+        {&worked, {3, {0}}, {{2, 2}, {2, 0}, {0, 1}}, "03"},
+        {&worked, {3, {0}}, {{2, 2}, {1, 1}, {0, 2}}, "023"},
+        {&worked, {3, {0}}, {{2, 2}, {1, 1}, {2, 0}}, "023"},
+        {&worked, {3, {0}}, {{3, 3}, {0, 1, 0}, {1, 0, 1}}, "023"},
+        {&worked, {3, {0}}, {{3, 3}, {1, 2, 2}, {2, 0, 1}}, "013"},
+        {&worked, {3, {0}}, {{6, 6}, {0, 0, 1, 1, 2, 2}, {1, 2, 0, 2, 0, 1}}, "03"},
+        {&worked, {3, {30, 5, 10}}, {{0, 0}, {0}, {0}}, "0123"},
+        {&worked, {3, {30, 5, 10}}, {{1, 1}, {1}, {0}}, "013"},
+        {&worked, {3, {30, 5, 10}}, {{1, 1}, {2}, {0}}, "012"},
+        {&worked, {3, {30, 5, 10}}, {{3, 3}, {2, 1, 1}, {0, 2, 0}}, "01"},
+        {&worked, {3, {1000, 1000, 1000}}, {{1, 1}, {1}, {0}}, "023"},
+        {&eight, {9, {0}}, {{1, 1}, {1}, {0}}, "1"},
+        {&eight, {9, {0}}, {{1, 1}, {0}, {2}}, "0"},
+        {&eight, {9, {0}}, {{2, 2}, {0, 2}, {1, 0}}, ""},
+        {&eight, {9, {0}}, {{5, 5}, {1, 3, 0, 8, 7}, {2, 4, 3, 0, 8}}, "01"},
+        {&eight, {9, {0}}, {{4, 4}, {0, 2, 7, 1}, {8, 1, 8, 0}}, "1"},
+        {&eight, {9, {0, 1}}, {{1, 1}, {1}, {0}}, "0"},
+        {&mixed, {4, {0}}, {{6, 6}, {0, 2, 0, 1, 3, 2}, {1, 0, 3, 2, 1, 3}}, "0123"},
+    };
+    for (call = 0; call < LENGTH(calls); call++) {
+        check_shown(&calls[call].by, &calls[call].apart, calls[call].circuit, 4, calls[call].places);
+        check_shown(&calls[call].by, &calls[call].apart, calls[call].circuit, 7, calls[call].places);
+    }
+}
+
+/* Adds a pair to both lists. */
+static void add_pair(pairs *apart, uint32_t first, uint32_t second)
+{
+    apart->firsts[apart->lengths[0]++] = first;
+    apart->seconds[apart->lengths[1]++] = second;
+}
+
+/* A listing by pairs that shows the rows without both marks of yes of a pair, one by one. */
+static void check_filtered(const minutes *by, const pairs *apart, const table *circuit, uint32_t capacity)
+{
+    char places[MORE_SHOWN + 1] = "";
+    size_t count = 0;
+    buffers all;
+    EXPECT_DONE(list_fitting(list_clearances, by, &all, circuit, capacity), 0, 0);
+    for (size_t row = 0; row < all.counts[circuit->nodes - 1]; row++) {
+        const uint64_t yes = all.positives[(size_t)(circuit->nodes - 1) * capacity + row];
+        int stays = 1;
+        for (size_t i = 0; i < apart->lengths[0]; i++) {
+            stays &= !(yes >> apart->firsts[i] & yes >> apart->seconds[i] & 1);
+        }
+        if (stays) {
+            places[count++] = (char)('0' + row);
+        }
+    }
+    check_shown(by, apart, circuit, capacity, places);
+}
+
+/* Each pair of variables alone; and of the pairs of three variables any, each missing, in one order, in the other, or in both. */
+static void check_many_pairs(void)
+{
+    static const table *const circuits[] = {&worked, &eight, &mixed};
+    for (size_t i = 0; i < LENGTH(circuits); i++) {
+        const uint32_t variables = circuits[i]->variables;
+        for (call = 0; call < (size_t)variables * variables; call++) {
+            const uint32_t first = (uint32_t)call / variables, second = (uint32_t)call % variables;
+            const minutes none = no_minutes(circuits[i]), by = {variables, {9, 1, 4, 3}};
+            const pairs apart = {{1, 1}, {first}, {second}};
+            if (first != second) {
+                check_filtered(&none, &apart, circuits[i], 4);
+                check_filtered(&by, &apart, circuits[i], 4);
+            }
+        }
+    }
+    for (call = 0; call < 64; call++) {
+        const minutes by = {3, {(uint32_t)call % 3, (uint32_t)call % 2, (uint32_t)call % 5}};
+        pairs apart = no_pairs;
+        for (uint32_t i = 0; i < 3; i++) {
+            const uint32_t first = i / 2, second = 1 + (i + 1) / 2;
+            if (call >> 2 * i & 1) {
+                add_pair(&apart, first, second);
+            }
+            if (call >> 2 * i & 2) {
+                add_pair(&apart, second, first);
+            }
+        }
+        check_filtered(&by, &apart, &worked, 4);
+    }
+}
+
+/* No room, no row, and the row without marks, which no pair leaves out. */
+static void check_pairs_of_constants(void)
+{
+    static const table never = {2, 1, 11, {{0}}, 0, 0}, always = {2, 1, 11, {{1}}, 0, 0};
+    static const pairs apart = {{1, 1}, {1}, {0}}, wrong = {{1, 1}, {1}, {1}};
+    const minutes none = {2, {0}};
+    for (uint32_t capacity = 0; capacity < 3; capacity++) {
+        call = capacity;
+        check_shown(&none, &apart, &never, capacity, "");
+        EXPECT_REFUSED(show(&wrong, &never, capacity), QUELBRIFT_PAIRS, 0);
+        EXPECT(shown_untouched());
+        EXPECT_REFUSED(show(&wrong, &always, capacity), QUELBRIFT_PAIRS, 0);
+        EXPECT(shown_untouched());
+        if (capacity > 0) {
+            check_shown(&none, &apart, &always, capacity, "0");
+        }
+    }
+    EXPECT_REFUSED(show(&apart, &always, 0), QUELBRIFT_CAPACITY, 0);
+    EXPECT(zeroed(&shown.listed, 0, 1));
+    EXPECT(shown_zeroed(0));
+}
+
+/* 42 counts all clearances, though the shown list would fit; the shown list is 0 then, and past the capacity as it was. */
+static void check_pairs_capacity(void)
+{
+    static const pairs lists[] = {
+        {{0, 0}, {0}, {0}}, {{1, 1}, {0}, {1}}, {{2, 2}, {2, 1}, {0, 0}}, {{3, 3}, {2, 1, 1}, {0, 0, 2}}};
+    const minutes by = {3, {30, 5, 10}};
+    for (call = 0; call < LENGTH(lists); call++) {
+        for (uint32_t capacity = 0; capacity < 4; capacity++) {
+            EXPECT_REFUSED(show(&lists[call], &worked, capacity), QUELBRIFT_CAPACITY, 0);
+            EXPECT(zeroed(&shown.listed, (size_t)5 * capacity, 5));
+            EXPECT(shown_zeroed(capacity));
+            EXPECT_REFUSED(show_by(&by, &lists[call], &worked, capacity, longest_shown), QUELBRIFT_CAPACITY, 0);
+            EXPECT(zeroed(&shown.listed, (size_t)5 * capacity, 5));
+            EXPECT(shown_zeroed(capacity));
+        }
+    }
+    /* All clearances of the conjunction of eight are left out. */
+    static const pairs both = {{2, 2}, {1, 0}, {0, 2}};
+    EXPECT_REFUSED(show(&both, &eight, 0), QUELBRIFT_CAPACITY, 0);
+    EXPECT_REFUSED(show(&both, &eight, 1), QUELBRIFT_CAPACITY, 0);
+    EXPECT(shown_zeroed(1));
+    check_shown(&(minutes){9, {0}}, &both, &eight, 2, "");
+}
+
+/* Pairs that are wrong for three variables: one variable twice, out of range as the first or the second, at each place; incomplete. */
+static const pairs wrong_pairs[] = {
+    {{1, 1}, {0}, {0}}, {{1, 1}, {1}, {1}}, {{1, 1}, {2}, {2}},
+    {{1, 1}, {3}, {0}}, {{1, 1}, {0}, {3}}, {{1, 1}, {2}, {3}}, {{1, 1}, {3}, {2}}, {{1, 1}, {3}, {3}}, {{1, 1}, {3}, {4}},
+    {{1, 1}, {32}, {1}}, {{1, 1}, {1}, {32}}, {{1, 1}, {40}, {1}}, {{1, 1}, {1}, {40}}, {{1, 1}, {63}, {1}}, {{1, 1}, {1}, {63}},
+    {{1, 1}, {64}, {1}}, {{1, 1}, {1}, {64}}, {{1, 1}, {256}, {1}}, {{1, 1}, {1}, {65536}},
+    {{1, 1}, {(uint32_t)1 << 31}, {1}}, {{1, 1}, {1}, {(uint32_t)1 << 31}},
+    {{1, 1}, {UINT32_MAX}, {0}}, {{1, 1}, {0}, {UINT32_MAX}}, {{1, 1}, {UINT32_MAX}, {UINT32_MAX}},
+    {{3, 3}, {1, 0, 0}, {1, 1, 2}}, {{3, 3}, {0, 1, 0}, {1, 1, 2}}, {{3, 3}, {0, 0, 1}, {1, 2, 1}},
+    {{3, 3}, {3, 0, 0}, {1, 1, 2}}, {{3, 3}, {0, 3, 0}, {1, 1, 2}}, {{3, 3}, {0, 0, 3}, {1, 2, 1}},
+    {{3, 3}, {0, 0, 1}, {3, 1, 2}}, {{3, 3}, {0, 0, 1}, {1, 3, 2}}, {{3, 3}, {0, 0, 1}, {1, 2, 3}},
+    {{8, 8}, {0, 0, 1, 0, 0, 1, 0, 2}, {1, 2, 2, 1, 2, 2, 1, 2}}, {{8, 8}, {0, 0, 1, 0, 0, 1, 0, 3}, {1, 2, 2, 1, 2, 2, 1, 2}},
+    {{1, 0}, {0}, {1}}, {{0, 1}, {0}, {1}}, {{2, 1}, {0, 0}, {1, 2}}, {{1, 2}, {0, 0}, {1, 2}}, {{3, 0}, {0, 0, 1}, {1, 2, 2}},
+    {{0, 3}, {0, 0, 1}, {1, 2, 2}}, {{8, 7}, {0, 0, 1, 0, 0, 1, 0, 1}, {1, 2, 2, 1, 2, 2, 1, 2}},
+    {{7, 8}, {0, 0, 1, 0, 0, 1, 0, 1}, {1, 2, 2, 1, 2, 2, 1, 2}}, {{2, 1}, {1, 0}, {1, 2}}, {{1, 2}, {3, 0}, {1, 2}},
+};
+
+/* Buffers that are too short for `worked`, each of them in turn. */
+static const struct {
+    uint32_t capacity;
+    shown_lengths lengths;
+} short_shown[] = {
+    {4, {19, 20, 5, 4, 4}}, {4, {20, 19, 5, 4, 4}}, {4, {20, 20, 4, 4, 4}}, {4, {20, 20, 5, 3, 4}}, {4, {20, 20, 5, 4, 3}},
+    {4, {96, 96, 12, 0, MORE_SHOWN}}, {4, {96, 96, 12, MORE_SHOWN, 0}}, {4, {0, 0, 0, 0, 0}}, {1, {5, 5, 5, 0, 1}},
+    {1, {5, 5, 5, 1, 0}}, {3, {15, 15, 5, 2, 3}}, {3, {15, 15, 5, 3, 2}}, {4097, {96, 96, 12, MORE_SHOWN, MORE_SHOWN}},
+    {UINT32_MAX, {96, 96, 12, MORE_SHOWN, MORE_SHOWN}}, {MORE_SHOWN, {80, 80, 5, MORE_SHOWN, MORE_SHOWN - 1}},
+};
+
+/* A buffer that is too short is 41, though the rows that are shown would fit, and before 56 and 42; no buffer is written. */
+static void check_shown_buffers(void)
+{
+    static const pairs right[] = {{{0, 0}, {0}, {0}}, {{2, 2}, {0, 1}, {1, 2}}, {{2, 2}, {2, 1}, {0, 0}}};
+    const minutes none = no_minutes(&worked);
+    for (call = 0; call < LENGTH(short_shown); call++) {
+        for (size_t i = 0; i < LENGTH(right); i++) {
+            EXPECT_REFUSED(show_by(&none, &right[i], &worked, short_shown[call].capacity, short_shown[call].lengths), QUELBRIFT_BUFFERS, 0);
+            EXPECT(shown_untouched());
+        }
+        for (size_t i = 0; i < LENGTH(wrong_minutes); i++) {
+            EXPECT_REFUSED(show_by(&wrong_minutes[i], &right[1], &worked, short_shown[call].capacity, short_shown[call].lengths),
+                           QUELBRIFT_BUFFERS, 0);
+            EXPECT(shown_untouched());
+        }
+    }
+}
+
+/* 57 comes after the table's refusals, 41 and 56, and before 42; it leaves every buffer as it was. */
+static void check_pairs_refusals(void)
+{
+    const minutes none = no_minutes(&worked);
+    for (call = 0; call < LENGTH(wrong_pairs); call++) {
+        const pairs *wrong = &wrong_pairs[call];
+        for (uint32_t capacity = 0; capacity <= 5; capacity++) {
+            EXPECT_REFUSED(show(wrong, &worked, capacity), QUELBRIFT_PAIRS, 0);
+            EXPECT(shown_untouched());
+            EXPECT_REFUSED(show_by(&none, wrong, &worked, capacity, longest_shown), QUELBRIFT_PAIRS, 0);
+            EXPECT(shown_untouched());
+        }
+        for (size_t i = 0; i < LENGTH(wrong_minutes); i++) {
+            EXPECT_REFUSED(show_by(&wrong_minutes[i], wrong, &worked, 3 + (uint32_t)i % 2, longest_shown), QUELBRIFT_MINUTES, 0);
+            EXPECT(shown_untouched());
+        }
+        for (size_t i = 0; i < LENGTH(short_shown); i++) {
+            const minutes *by = i % 2 == 0 ? &none : &wrong_minutes[i];
+            EXPECT_REFUSED(show_by(by, wrong, &worked, short_shown[i].capacity, short_shown[i].lengths), QUELBRIFT_BUFFERS, 0);
+            EXPECT(shown_untouched());
+        }
+    }
+    FOR_EACH_REFUSED(row) {
+        static const pairs wrong = {{3, 2}, {UINT32_MAX, 1, 7}, {0, 1}};
+        const minutes right = {row->variables <= 40 ? row->variables : 40, {0}};
+        EXPECT_REFUSED(show_by(&right, &wrong, row, 4, longest_shown), row->number, row->place);
+        EXPECT_REFUSED(show_by(&wrong_minutes[0], &wrong, row, 4097, (shown_lengths){0}), row->number, row->place);
+        EXPECT_REFUSED(show_by(&right, &no_pairs, row, 4, (shown_lengths){96, 96, 12, 3, 3}), row->number, row->place);
+        EXPECT(shown_untouched());
+    }
+}
+
+/* Lists of different lengths, each the longer one: a pair is incomplete, whatever else stands there. */
+static void check_pairs_incomplete(void)
+{
+    for (call = 0; call < (MORE_PAIRS + 1) * (MORE_PAIRS + 1); call++) {
+        const pairs apart = {{call / (MORE_PAIRS + 1), call % (MORE_PAIRS + 1)}, {0, 1, 2, 0, 1, 2, 0, 1}, {1, 2, 0, 2, 0, 1, 1, 0}};
+        if (apart.lengths[0] == apart.lengths[1]) {
+            check_filtered(&(minutes){3, {0}}, &apart, &worked, 4);
+        } else {
+            EXPECT_REFUSED(show(&apart, &worked, 4), QUELBRIFT_PAIRS, 0);
+            EXPECT(shown_untouched());
+        }
+    }
+}
+
+/* A variable of a pair is below the number of variables, whether the circuit names it or not. */
+static void check_pairs_of_every_variable(void)
+{
+    for (uint32_t variables = 3; variables <= 40; variables++) {
+        table wide = worked;
+        wide.variables = variables;
+        const minutes none = no_minutes(&wide);
+        call = variables;
+        for (uint32_t other = 0; other < 2; other++) {
+            check_filtered(&none, &(pairs){{1, 1}, {variables - 1}, {other}}, &wide, 4);
+            check_filtered(&none, &(pairs){{1, 1}, {other}, {variables - 1}}, &wide, 4);
+            EXPECT_REFUSED(show(&(pairs){{1, 1}, {variables}, {other}}, &wide, 4), QUELBRIFT_PAIRS, 0);
+            EXPECT_REFUSED(show(&(pairs){{1, 1}, {other}, {variables}}, &wide, 4), QUELBRIFT_PAIRS, 0);
+            EXPECT_REFUSED(show(&(pairs){{2, 2}, {1, other}, {0, variables + 64}}, &wide, 4), QUELBRIFT_PAIRS, 0);
+        }
+        EXPECT_REFUSED(show(&(pairs){{1, 1}, {variables - 1}, {variables - 1}}, &wide, 4), QUELBRIFT_PAIRS, 0);
+        EXPECT(shown_untouched());
+    }
+}
+
+/* The circuit, the minutes, the pairs and what is not lent of them are only read. */
+static void check_pairs_unchanged(void)
+{
+    static const pairs lists[] = {
+        {{2, 2}, {1, 0, 7, 9}, {0, 2, 7, 9}}, {{2, 2}, {1, 1, 7, 9}, {0, 1, 7, 9}}, {{2, 1}, {1, 0, 7}, {0, 2, 7}},
+        {{0, 0}, {7, 9}, {7, 8}}};
+    static const minutes right = {3, {3, 0, 1000, 7, 9}};
+    for (call = 0; call < 3 * LENGTH(lists); call++) {
+        table circuit = worked;
+        minutes by = right;
+        pairs apart = lists[call / 3];
+        const uint32_t capacity = 3 + (uint32_t)call % 3;
+        show_by(&by, &apart, &circuit, capacity, (shown_lengths){20, 20, 5, capacity, capacity});
+        EXPECT(memcmp(&apart, &lists[call / 3], sizeof apart) == 0);
+        EXPECT(memcmp(&by, &right, sizeof by) == 0);
+        EXPECT(memcmp(&circuit, &worked, sizeof circuit) == 0);
+    }
+}
+
+/* More pairs than any two of the most variables make. */
+#define MANY_PAIRS 2000
+static uint32_t many_firsts[MANY_PAIRS], many_seconds[MANY_PAIRS];
+
+/* Lists the wide circuit by so many first and second variables, in room for three. */
+static quelbrift_answer show_wide(size_t firsts, size_t seconds)
+{
+    static const uint32_t none[40];
+    static uint32_t counts[WIDE_NODES];
+    memset(&shown, 0xa5, sizeof shown);
+    return quelbrift_list(wide_words[0], WIDE_NODES * 11, 40, WIDE_NODES, none, 40, many_firsts, firsts, many_seconds, seconds, 3,
+                          wide_positives, LENGTH(wide_positives), wide_negatives, LENGTH(wide_negatives), counts, WIDE_NODES,
+                          shown.positives, 3, shown.negatives, 3);
+}
+
+/* The clearances of the wide circuit, each its positive and its negative mask; and those where every literal is positive instead. */
+static const uint64_t wide_rows[2][2][2] = {
+    {{0x5555555555, 0x2aaaaaaaaa}, {0x1555555555, 0xaaaaaaaaaa}}, {{0x7fffffffff, 0}, {0xbfffffffff, 0}}};
+
+static void make_wide_rows(size_t which)
+{
+    make_wide();
+    for (uint32_t i = 0; which == 1 && i <= 38; i++) {
+        wide_words[i][0] = 2;
+    }
+}
+
+/* By so many pairs the first of these clearances is shown, or the second, both, or none. */
+static void check_wide_shown(size_t which, size_t length, int first, int second)
+{
+    const int is_shown[2] = {first, second};
+    uint64_t positives[3] = {0}, negatives[3] = {0};
+    size_t count = 0;
+    for (size_t row = 0; row < 2; row++) {
+        if (is_shown[row]) {
+            positives[count] = wide_rows[which][row][0];
+            negatives[count++] = wide_rows[which][row][1];
+        }
+    }
+    EXPECT_DONE(show_wide(length, length), count, 0);
+    EXPECT(shown_is(positives, negatives, 3));
+}
+
+/* Every two variables, in both orders, alone. */
+static void check_each_pair_of_wide(void)
+{
+    for (size_t which = 0; which < 2; which++) {
+        make_wide_rows(which);
+        check_wide_shown(which, 0, 1, 1);
+        for (call = 0; call < 40 * 40; call++) {
+            const uint64_t two = (uint64_t)1 << call / 40 | (uint64_t)1 << call % 40;
+            many_firsts[0] = (uint32_t)call / 40;
+            many_seconds[0] = (uint32_t)call % 40;
+            if (call / 40 == call % 40) {
+                EXPECT_REFUSED(show_wide(1, 1), QUELBRIFT_PAIRS, 0);
+                EXPECT(shown_untouched());
+            } else {
+                check_wide_shown(which, 1, (two & ~wide_rows[which][0][0]) != 0, (two & ~wide_rows[which][1][0]) != 0);
+            }
+        }
+    }
+}
+
+/* A list of every two variables, but not of two in the mask, each pair in the one order or in the other; its length. */
+static size_t make_pairs_but(uint64_t mask, int reversed)
+{
+    size_t length = 0;
+    for (uint32_t higher = 0; higher < 40; higher++) {
+        for (uint32_t lower = 0; lower < higher; lower++) {
+            if (!(mask >> higher & mask >> lower & 1)) {
+                many_firsts[length] = reversed ? higher : lower;
+                many_seconds[length++] = reversed ? lower : higher;
+            }
+        }
+    }
+    return length;
+}
+
+/* Lists of all pairs, and of all but those that leave out a clearance or both; one pair more at the end, after many repeated ones. */
+static void check_all_pairs_of_wide(void)
+{
+    make_wide_rows(0);
+    for (call = 0; call < 2; call++) {
+        EXPECT(make_pairs_but(0, (int)call) == 780);
+        check_wide_shown(0, 780, 0, 0);
+        EXPECT_REFUSED(show_wide(780, 779), QUELBRIFT_PAIRS, 0);
+        EXPECT_REFUSED(show_wide(779, 780), QUELBRIFT_PAIRS, 0);
+        check_wide_shown(0, make_pairs_but(wide_even, (int)call), 0, 1);
+        const size_t length = make_pairs_but(wide_even | wide_38, (int)call), last = MANY_PAIRS - 1;
+        check_wide_shown(0, length, 1, 1);
+        for (size_t i = length; i < MANY_PAIRS; i++) {
+            many_firsts[i] = many_firsts[i - length];
+            many_seconds[i] = many_seconds[i - length];
+        }
+        check_wide_shown(0, MANY_PAIRS, 1, 1);
+        many_firsts[last] = 38;
+        many_seconds[last] = 36;
+        check_wide_shown(0, last, 1, 1);
+        check_wide_shown(0, MANY_PAIRS, 0, 1);
+        many_firsts[last] = 34;
+        check_wide_shown(0, MANY_PAIRS, 0, 0);
+        many_seconds[last] = 34;
+        EXPECT_REFUSED(show_wide(MANY_PAIRS, MANY_PAIRS), QUELBRIFT_PAIRS, 0);
+        many_seconds[last] = 40;
+        EXPECT_REFUSED(show_wide(MANY_PAIRS, MANY_PAIRS), QUELBRIFT_PAIRS, 0);
+        EXPECT(shown_untouched());
+    }
 }
 
 static void check_view(void)
@@ -1495,7 +2014,7 @@ static void check_walk_minutes(void)
         memcpy(steps, loading, sizeof steps);
         EXPECT_DONE(walk_by(&by, &circuit, 4, steps, 8, fitting(&circuit, 4, 8)), 1, 6);
         EXPECT(entries_are(loading_statuses, loading_compatibles, 8));
-        EXPECT_DONE(list_fitting(quelbrift_list, &by, &lent, &circuit, 4), 0, 0);
+        EXPECT_DONE(list_fitting(list_clearances, &by, &lent, &circuit, 4), 0, 0);
         EXPECT(memcmp(&walked.listed, &lent, sizeof lent) == 0);
         EXPECT(walked.listed.positives[16] == calls[call].positive && walked.listed.negatives[16] == calls[call].negative);
         EXPECT(memcmp(&by, &calls[call].by, sizeof by) == 0);
@@ -1552,14 +2071,14 @@ static void check_step(void)
 
 static void check_version(void)
 {
-    EXPECT(QUELBRIFT_VERSION == 6);
+    EXPECT(QUELBRIFT_VERSION == 7);
     EXPECT(quelbrift_version() == QUELBRIFT_VERSION);
 }
 
 /* Every number has a text of its own. */
 static void check_texts(void)
 {
-    static const uint32_t numbers[] = {0, 10, 11, 12, 13, 14, 15, 16, 21, 22, 23, 24, 25, 31, 32, 33, 41, 42, 51, 52, 53, 54, 55, 56};
+    static const uint32_t numbers[] = {0, 10, 11, 12, 13, 14, 15, 16, 21, 22, 23, 24, 25, 31, 32, 33, 41, 42, 51, 52, 53, 54, 55, 56, 57};
     for (call = 0; call < LENGTH(numbers); call++) {
         EXPECT(strcmp(quelbrift_text(numbers[call]), quelbrift_text(1)) != 0);
         for (size_t other = 0; other < call; other++) {
@@ -1604,6 +2123,18 @@ int main(void)
     run(check_minutes_of_every_variable);
     run(check_minutes_unchanged);
     run(check_minutes_of_wide);
+    run(check_shown_masks);
+    run(check_pairs);
+    run(check_many_pairs);
+    run(check_pairs_of_constants);
+    run(check_pairs_capacity);
+    run(check_shown_buffers);
+    run(check_pairs_refusals);
+    run(check_pairs_incomplete);
+    run(check_pairs_of_every_variable);
+    run(check_pairs_unchanged);
+    run(check_each_pair_of_wide);
+    run(check_all_pairs_of_wide);
     run(check_view);
     run(check_read_assignment);
     run(check_step);

@@ -6,7 +6,7 @@ use std::sync::OnceLock;
 use std::time::{Duration, Instant};
 
 /// What both sides said: the operation; and 0 or 1 where the work is done (0: no, none, nothing), of a half-known stow its verdict as 0
-/// to 2, else the refusal's number.
+/// to 2, of a listing 2 where a clearance is not shown; else the refusal's number.
 pub type Seen = (&'static str, u32);
 
 pub trait Case: Clone {

@@ -3,7 +3,8 @@
 
 use crate::oracle::answers::{Completions, Verdict};
 use crate::oracle::function::{Listed, Term};
-use crate::oracle::listing::Buffers;
+use crate::oracle::listing::{Buffers, Shown};
+use crate::oracle::pairs::Pairs;
 use crate::oracle::script::Step;
 use crate::oracle::table::Table;
 use crate::oracle::walk::Lent;
@@ -71,20 +72,49 @@ pub fn middle<T>(list: &mut [T]) -> &mut [T] {
     &mut list[MARGIN..end]
 }
 
-/// One of the two listings.
+/// One of the two listings, without pairs.
 pub type Listing = fn(quelbrift::Table, &[u32], u32, &mut [u64], &mut [u64], &mut [u32]) -> Result<(), quelbrift::Refusal>;
 
 pub fn listing(listed: Listed) -> Listing {
     match listed {
-        Listed::Clearances => quelbrift::list,
+        Listed::Clearances => list_clearances,
         Listed::Blockers => quelbrift::list_negation,
     }
+}
+
+/// Lists the clearances without pairs, with a shown list that nobody looks at.
+fn list_clearances(
+    table: quelbrift::Table,
+    weights: &[u32],
+    capacity: u32,
+    positives: &mut [u64],
+    negatives: &mut [u64],
+    counts: &mut [u32],
+) -> Result<(), quelbrift::Refusal> {
+    let [mut shown_positives, mut shown_negatives] = [(); 2].map(|()| vec![0; capacity as usize]);
+    let (shown_positives, shown_negatives) = (&mut shown_positives, &mut shown_negatives);
+    let buffers = quelbrift::ListBuffers { positives, negatives, counts, shown_positives, shown_negatives };
+    quelbrift::list(table, weights, &[], &[], capacity, buffers).map(|_| ())
 }
 
 /// Lists into the middles of three lists with margins.
 pub fn list(listed: Listed, table: &Table, weights: &[u32], capacity: u32, lists: &mut Buffers) -> Result<(), Refused> {
     let Buffers { positives, negatives, counts } = lists;
     own(listing(listed)(lent(table), weights, capacity, middle(positives), middle(negatives), middle(counts)))
+}
+
+/// Lists the clearances by pairs, with the middles of five lists with margins lent: how many are shown.
+pub fn list_shown(table: &Table, weights: &[u32], pairs: &Pairs, capacity: u32, lists: &mut Shown) -> Result<u64, Refused> {
+    let Shown { listing: Buffers { positives, negatives, counts }, positives: shown_positives, negatives: shown_negatives } = lists;
+    let buffers = quelbrift::ListBuffers {
+        positives: middle(positives),
+        negatives: middle(negatives),
+        counts: middle(counts),
+        shown_positives: middle(shown_positives),
+        shown_negatives: middle(shown_negatives),
+    };
+    let answer = own(quelbrift::list(lent(table), weights, &pairs.firsts, &pairs.seconds, capacity, buffers));
+    answer.map(|shown| shown as u64)
 }
 
 fn lent_steps(steps: &[Step]) -> Vec<quelbrift::Step> {

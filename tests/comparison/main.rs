@@ -11,6 +11,7 @@ mod compare;
 mod damage;
 mod engine;
 mod oracle;
+mod pairs;
 mod partials;
 mod random;
 mod scripts;

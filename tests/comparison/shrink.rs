@@ -1,6 +1,8 @@
-//! Smaller tables, texts, weights and numbers, for small reproducers.
+//! Smaller tables, texts, weights, pairs and numbers, for small reproducers.
 
+use crate::oracle::pairs::Pairs;
 use crate::oracle::table::{Table, MOST_CHILDREN, NODE_WORDS};
+use std::ops::Range;
 
 /// Smaller numbers: 0, the half, one less.
 pub fn numbers(number: u64) -> Vec<u64> {
@@ -16,17 +18,25 @@ pub fn masks(mask: u64) -> Vec<u64> {
     without.chain([mask >> 1]).filter(|&candidate| candidate < mask).collect()
 }
 
-/// Shorter lists: without a slice (half of it, a quarter, ... one item).
-pub fn lists<T: Clone>(list: &[T]) -> Vec<Vec<T>> {
-    let mut shorter = vec![];
-    let mut length = list.len();
+/// The slices of a list of that length: all of it, the halves, the quarters, ... each item.
+fn slices(whole: usize) -> Vec<Range<usize>> {
+    let mut slices = vec![];
+    let mut length = whole;
     while length > 0 {
-        for start in (0..=list.len() - length).step_by(length) {
-            shorter.push([&list[..start], &list[start + length..]].concat());
-        }
+        slices.extend((0..=whole - length).step_by(length).map(|start| start..start + length));
         length /= 2;
     }
-    shorter
+    slices
+}
+
+/// The list without a slice, as far as it has it.
+fn without<T: Clone>(list: &[T], slice: &Range<usize>) -> Vec<T> {
+    [&list[..slice.start.min(list.len())], &list[slice.end.min(list.len())..]].concat()
+}
+
+/// Shorter lists: without a slice.
+pub fn lists<T: Clone>(list: &[T]) -> Vec<Vec<T>> {
+    slices(list.len()).iter().map(|slice| without(list, slice)).collect()
 }
 
 /// Smaller weights: all 0, fewer of them, lower ones.
@@ -56,6 +66,26 @@ pub fn weights_for(smaller: &Table, table: &Table, weights: &[u32]) -> Vec<u32> 
 pub fn without_variable(table: &Table, weights: &[u32]) -> Vec<(Table, Vec<u32>)> {
     let fewer = || Table { variables: table.variables.saturating_sub(1), ..table.clone() };
     (0..weights.len()).map(|index| (fewer(), [&weights[..index], &weights[index + 1..]].concat())).collect()
+}
+
+/// Up to so many pairs are made lower one by one.
+const FEW_PAIRS: usize = 50;
+
+/// Smaller pairs: fewer of them, lower variables.
+pub fn pairs(pairs: &Pairs) -> Vec<Pairs> {
+    let Pairs { firsts, seconds } = pairs;
+    let mut smaller: Vec<Pairs> =
+        slices(pairs.longest()).iter().map(|slice| Pairs { firsts: without(firsts, slice), seconds: without(seconds, slice) }).collect();
+    for (index, (first, second)) in (0..pairs.longest().min(FEW_PAIRS)).filter_map(|index| Some((index, pairs.entry(index)?))) {
+        let mut change = |first: u32, second: u32| {
+            let mut changed = pairs.clone();
+            (changed.firsts[index], changed.seconds[index]) = (first, second);
+            smaller.push(changed);
+        };
+        numbers(u64::from(first)).iter().for_each(|&lower| change(lower as u32, second));
+        numbers(u64::from(second)).iter().for_each(|&lower| change(first, lower as u32));
+    }
+    smaller
 }
 
 /// Shorter texts, and texts with a lower digit.

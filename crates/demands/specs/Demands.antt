@@ -232,7 +232,7 @@ pub record AnyInput : Type 0 where
       (lent (replicate (n * R) 0 ++ drop (n * R) (b .nodes .positives)) (replicate (n * R) 0 ++ drop (n * R) (b .nodes .negatives))
       (replicate n 0 ++ drop n (b .nodes .counts)))
       (replicate R 0 ++ drop R (b .positives)) (replicate R 0 ++ drop R (b .negatives))
-  -- where it is done or refused by 42, the answer and the nodes' buffers are those of the listing without a shown list
+  -- where neither 41 nor 57 is met, the answer and the nodes' buffers are those of the listing without a shown list: pairs change neither
   pub filter-nodes : (m : List ℕ) (e : Exclusions) (N n : ℕ) (w : List ℕ) (R : ℕ) (b : FilteredLent) → ShownRoom N n w R b → Pairs N e
       → let o : FilteredOut = filteredTable m e N n w R b in
       (o .after .nodes ≡ listTable true m N n w R (b .nodes) .after)

@@ -26,7 +26,8 @@ use Rattle.small_circuits.specs.Small.{smallHolds, judgements, small}
 
 pub small-holds : T (all smallHolds small)
 unfolding small judgements modelCount partialEvaluation judgement status modelsUnder checkTerm checkMeasurements wrong measuredTerm
-    listTable filteredTable shownPrimes proper respects exceeds check malformed parentless undecomposable unreduced support nodeAt wordsAt putWords
+    listTable filteredTable shownPrimes proper respects exceeds check malformed parentless undecomposable unreduced support
+    nodeAt wordsAt putWords
     childrenFit bottomUp ofNode function primes prime candidates implicant agrees isTerm weight key before sort
     fitting bit put size disjoint every some count total least below
     readText headerAt linesAt formAt restWith endAt closeAt headAt tailAt wordAt rangedAt matchAt numberAt digitsAt digitAt

@@ -9,11 +9,13 @@ pub fn zeros(table: Table) -> &'static [u32] {
     &[0; MAX_VARIABLES as usize][..table.variables as usize]
 }
 
-/// Lists the prime implicants of every node by the weights.
+/// Lists the prime implicants of every node by the weights, without pairs.
 pub fn list(of: Of, table: Table, weights: &[u32], capacity: u32, buffers: &mut Buffers) -> Listed {
-    let Buffers { positives, negatives, counts } = buffers;
     match of {
-        Of::Function => quelbrift::list(table, weights, capacity, positives, negatives, counts),
-        Of::Negation => quelbrift::list_negation(table, weights, capacity, positives, negatives, counts),
+        Of::Function => quelbrift::list(table, weights, &[], &[], capacity, buffers.lent()).map(|_| ()),
+        Of::Negation => {
+            let Buffers { positives, negatives, counts, .. } = buffers;
+            quelbrift::list_negation(table, weights, capacity, positives, negatives, counts)
+        }
     }
 }

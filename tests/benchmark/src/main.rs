@@ -3,8 +3,9 @@
 //! on those marked slow, and with `-- worst by-hand` the engine does not either. With `-- search` a search for bad circuits. With
 //! `-- partial` the verdict for a partial assignment beside the count of models. With `-- walk` the walk of a script beside the listing
 //! that it starts with. With `-- weights` the engine's listings by random weights beside those by weights that are all 0, which all
-//! others lend: by hand and the other peers keep to the order without weights. A listing of every node clears the lent buffers first,
-//! and that is in its time.
+//! others lend: by hand and the other peers keep to the order without weights. With `-- pairs` its listings with many pairs beside
+//! those without pairs, as all others are. A listing of every node clears the lent buffers first, and that is in its time; so is the
+//! shown list, where clearances are listed.
 mod buffers;
 mod by_hand;
 mod by_hand_before;
@@ -17,10 +18,13 @@ mod factors;
 mod families;
 mod listing;
 mod measure;
+mod pairs;
 mod part;
 mod partial;
 mod random;
+mod ratios;
 mod search;
+mod shown;
 mod sides;
 mod steps;
 mod terms;
@@ -147,6 +151,7 @@ fn main() {
         ["partial"] => partial::print(),
         ["walk"] => walk::print(),
         ["weights"] => weights::print(),
-        _ => stop("the commands are none, worst, worst by-hand, search, partial, walk, and weights"),
+        ["pairs"] => pairs::print(),
+        _ => stop("the commands are none, worst, worst by-hand, search, partial, walk, weights, and pairs"),
     }
 }

@@ -3,6 +3,7 @@ use crate::buffers::Buffers;
 use crate::diagrams::Over;
 use crate::families::Family;
 use crate::listing::{Lent, Listed};
+use crate::shown::Excluded;
 use crate::steps::Counted;
 use crate::terms::{Of, Term};
 use crate::timing::{least, shown, Runs};
@@ -62,7 +63,7 @@ impl Peer {
     /// Lists into the buffers: whether there was room. None where it gives up.
     fn list(self, of: Of, family: &Family, capacity: u32, buffers: &mut Buffers) -> Option<bool> {
         let table = family.circuit.table();
-        let Buffers { positives, negatives, counts } = buffers;
+        let Buffers { positives, negatives, counts, .. } = buffers;
         let listed = match self {
             Peer::Engine => engine::list(of, table, engine::zeros(table), capacity, buffers),
             Peer::ByHand => by_hand::list(of, table, capacity, positives, negatives, counts),
@@ -72,6 +73,9 @@ impl Peer {
                 Err(Over) => return None,
             },
         };
+        if self != Peer::Engine {
+            buffers.show(of, &Excluded::NOTHING, capacity);
+        }
         Some(had_room(family, listed))
     }
 }

@@ -36,7 +36,7 @@ impl Lent {
     }
 
     fn walk(&mut self, table: Table, steps: &[Step]) -> Result<Option<usize>, Refusal> {
-        let Lent { listing: Buffers { positives, negatives, counts }, statuses, compatibles } = self;
+        let Lent { listing: Buffers { positives, negatives, counts, .. }, statuses, compatibles } = self;
         let buffers = WalkBuffers { positives, negatives, counts, statuses, compatibles };
         quelbrift::walk(table, engine::zeros(table), CAPACITY, steps, buffers)
     }

@@ -5,20 +5,24 @@ use crate::compare::{same, same_entries, Case, Seen};
 use crate::engine::{self, MARGIN};
 use crate::oracle::answers::Oracle;
 use crate::oracle::function::{Listed, Term};
-use crate::oracle::listing::{self, Buffers};
+use crate::oracle::listing::{self, Buffers, Shown};
+use crate::oracle::pairs::Pairs;
 use crate::oracle::table::Table;
-use crate::oracle::view;
+use crate::oracle::{view, Refused};
 use crate::random::Random;
 use crate::shrink;
 
-/// A listing: what is listed, the weights, the capacity, and the lengths of the buffers (positive masks, negative masks, counts).
+/// A listing: what is listed, the weights, the capacity, and the lengths of the buffers (positive masks, negative masks, counts). One of
+/// clearances has pairs, and the lengths of the buffers of the shown list; one of blockers lends neither.
 #[derive(Clone, Debug)]
 pub struct Listing {
     pub listed: Listed,
     pub table: Table,
     pub weights: Vec<u32>,
+    pub pairs: Pairs,
     pub capacity: u32,
     pub lengths: [usize; 3],
+    pub shown: [usize; 2],
     /// The seed of what the buffers hold before.
     pub noise: u64,
 }
@@ -50,9 +54,48 @@ pub fn with_middles(lists: &Buffers, middles: &Buffers) -> Buffers {
     with
 }
 
+/// Five lists with margins, full of noise.
+fn shown_noise(seed: u64, lengths: [usize; 3], shown: [usize; 2]) -> Shown {
+    let Buffers { positives, negatives, .. } = noise(!seed, [shown[0], shown[1], 0]);
+    Shown { listing: noise(seed, lengths), positives, negatives }
+}
+
+/// The lent parts of five lists with margins.
+fn shown_middles(lists: &Shown) -> Shown {
+    let Shown { listing, mut positives, mut negatives } = lists.clone();
+    let [positives, negatives] = [&mut positives, &mut negatives].map(|list| engine::middle(list).to_vec());
+    Shown { listing: middles(&listing), positives, negatives }
+}
+
+/// The lists with other lent parts in them.
+fn with_shown_middles(lists: &Shown, middles: &Shown) -> Shown {
+    let mut with = Shown { listing: with_middles(&lists.listing, &middles.listing), ..lists.clone() };
+    engine::middle(&mut with.positives).copy_from_slice(&middles.positives);
+    engine::middle(&mut with.negatives).copy_from_slice(&middles.negatives);
+    with
+}
+
 impl Listing {
+    /// Without pairs, and with buffers of the shown list just enough.
     pub fn new(listed: Listed, table: Table, weights: &[u32], capacity: u32, lengths: [usize; 3], noise: u64) -> Listing {
-        Listing { listed, table, weights: weights.to_vec(), capacity, lengths, noise }
+        let shown = if listed == Listed::Clearances { capacity.min(4096) as usize } else { 0 };
+        Listing { listed, table, weights: weights.to_vec(), pairs: Pairs::default(), capacity, lengths, shown: [shown; 2], noise }
+    }
+
+    /// With these pairs, where clearances are listed; blockers stay as they are.
+    pub fn with_pairs(self, pairs: Pairs) -> Listing {
+        match self.listed {
+            Listed::Clearances => Listing { pairs, ..self },
+            Listed::Blockers => self,
+        }
+    }
+
+    /// With buffers of the shown list of these lengths, likewise.
+    pub fn with_shown(self, shown: [usize; 2]) -> Listing {
+        match self.listed {
+            Listed::Clearances => Listing { shown, ..self },
+            Listed::Blockers => self,
+        }
     }
 
     /// With buffers just enough.
@@ -68,20 +111,42 @@ impl Listing {
         }
     }
 
+    /// The engine's answer: how many clearances are shown; none of blockers.
+    fn by_engine(&self, lists: &mut Shown) -> Result<Option<u64>, Refused> {
+        let Listing { table, weights, pairs, capacity, .. } = self;
+        match self.listed {
+            Listed::Clearances => engine::list_shown(table, weights, pairs, *capacity, lists).map(Some),
+            Listed::Blockers => engine::list(self.listed, table, weights, *capacity, &mut lists.listing).map(|()| None),
+        }
+    }
+
+    /// The oracle's answer likewise.
+    fn by_oracle(&self, oracle: &Oracle, primes: &[Vec<Term>], lent: &mut Shown) -> Result<Option<u64>, Refused> {
+        let Listing { weights, pairs, capacity, .. } = self;
+        match self.listed {
+            Listed::Clearances => listing::list_shown(oracle, primes, weights, pairs, *capacity, lent).map(Some),
+            Listed::Blockers => listing::list(oracle, primes, weights, *capacity, &mut lent.listing).map(|()| None),
+        }
+    }
+
     /// Compares the answers and every entry, also those in the margins.
     pub fn compared_by(&self, oracle: &Oracle, primes: &[Vec<Term>]) -> Result<Seen, String> {
-        let before = noise(self.noise, self.lengths);
+        let before = shown_noise(self.noise, self.lengths, self.shown);
         let mut after = before.clone();
-        let engine_answer = engine::caught(|| engine::list(self.listed, &self.table, &self.weights, self.capacity, &mut after));
-        let mut lent = middles(&before);
-        let answer = listing::list(oracle, primes, &self.weights, self.capacity, &mut lent);
-        let expected = with_middles(&before, &lent);
+        let engine_answer = engine::caught(|| self.by_engine(&mut after));
+        let mut lent = shown_middles(&before);
+        let answer = self.by_oracle(oracle, primes, &mut lent);
+        let expected = with_shown_middles(&before, &lent);
         same(self.operation(), engine_answer, Ok(answer))?;
-        same_entries("counts", &after.counts, &expected.counts, MARGIN)?;
-        same_entries("positive masks", &after.positives, &expected.positives, MARGIN)?;
-        same_entries("negative masks", &after.negatives, &expected.negatives, MARGIN)?;
+        same_entries("counts", &after.listing.counts, &expected.listing.counts, MARGIN)?;
+        same_entries("positive masks", &after.listing.positives, &expected.listing.positives, MARGIN)?;
+        same_entries("negative masks", &after.listing.negatives, &expected.listing.negatives, MARGIN)?;
+        same_entries("positive masks shown", &after.positives, &expected.positives, MARGIN)?;
+        same_entries("negative masks shown", &after.negatives, &expected.negatives, MARGIN)?;
+        let whole = primes.last().map_or(0, Vec::len) as u64;
         Ok(match answer {
-            Ok(()) => (self.operation(), u32::from(!primes.last().expect("a node").is_empty())),
+            Ok(Some(shown)) if shown < whole => (self.operation(), 2),
+            Ok(_) => (self.operation(), u32::from(whole > 0)),
             Err(refusal) => (self.operation(), refusal.number),
         })
     }
@@ -111,6 +176,9 @@ impl Case for Listing {
         for (table, weights) in shrink::without_variable(&self.table, &self.weights) {
             smaller.push(Listing { table, weights, ..self.clone() });
         }
+        for pairs in shrink::pairs(&self.pairs) {
+            smaller.push(Listing { pairs, ..self.clone() });
+        }
         for capacity in shrink::numbers(u64::from(self.capacity)) {
             smaller.push(Listing { capacity: capacity as u32, ..self.clone() });
         }
@@ -121,12 +189,23 @@ impl Case for Listing {
                 smaller.push(Listing { lengths, ..self.clone() });
             }
         }
+        for buffer in 0..2 {
+            for length in shrink::numbers(self.shown[buffer] as u64) {
+                let mut shown = self.shown;
+                shown[buffer] = length as usize;
+                smaller.push(Listing { shown, ..self.clone() });
+            }
+        }
         smaller
     }
 
     fn paste(&self) -> String {
-        let Listing { listed, table, weights, capacity, lengths, noise } = self;
-        format!("Listing::new({listed:?}, {}, &{weights:?}, {capacity}, {lengths:?}, {noise})", paste_table(table))
+        let Listing { listed, table, weights, pairs: Pairs { firsts, seconds }, capacity, lengths, shown, noise } = self;
+        let listing = format!("Listing::new({listed:?}, {}, &{weights:?}, {capacity}, {lengths:?}, {noise})", paste_table(table));
+        match listed {
+            Listed::Clearances => format!("{listing}.with_pairs(Pairs::new(&{firsts:?}, &{seconds:?})).with_shown({shown:?})"),
+            Listed::Blockers => listing,
+        }
     }
 
     fn notes(&self) -> String {

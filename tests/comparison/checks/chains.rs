@@ -43,7 +43,7 @@ fn two_child_tables_list_the_rows_they_listed() {
     }
     assert!(conjunctions > 5_000, "{conjunctions} conjunctions only");
     tally.expect(&[
-        ("list", &[(0, 5), (1, 1_900), (42, 1_900), (56, 300)]),
+        ("list", &[(0, 5), (1, 1_200), (2, 250), (42, 1_900), (56, 300), (57, 300)]),
         ("list_negation", &[(0, 100), (1, 1_500), (42, 1_500), (56, 300)]),
     ]);
 }

@@ -12,6 +12,7 @@ use crate::compare::compare;
 use crate::damage;
 use crate::oracle::function::{Listed, Term};
 use crate::oracle::table::{Node, Table, MOST_CHILDREN, NODE_WORDS};
+use crate::pairs;
 use crate::partials;
 use crate::random::Random;
 use crate::scripts;
@@ -42,14 +43,17 @@ fn every_operation(origin: &str, random: &Random, table: &Table, tally: &mut Tal
         partials::damage(random, &mut measurements, term, table.variables);
     }
     compare(origin, &Partial { table: table.clone(), term, measurements }, tally);
-    let capacity = if random.once_in(100) { 4097 } else { random.choose(&[0, 1, 3, 20, 100]) };
+    let capacity: u32 = if random.once_in(100) { 4097 } else { random.choose(&[0, 1, 3, 20, 100]) };
     let rows = (table.nodes as usize).min(60) * capacity as usize;
     let longer = random.position(3);
     let lengths =
         random.choose(&[[rows + longer, rows, (table.nodes as usize).min(60)], [rows, rows + longer, 70], [0, 0, 0], [9, 8, 7]]);
     let weights = || weights::any(random, table.variables.min(64));
+    let shown = random.choose(&[capacity, capacity, capacity, capacity.saturating_sub(1)]) as usize;
     for listed in Listed::BOTH {
-        compare(origin, &Listing::new(listed, table.clone(), &weights(), capacity, lengths, random.next()), tally);
+        let listing = Listing::new(listed, table.clone(), &weights(), capacity, lengths, random.next());
+        let pairs = pairs::any(random, table.variables.min(64), &[term]);
+        compare(origin, &listing.with_pairs(pairs).with_shown([shown, shown + longer]), tally);
     }
     let sink = random.choose(&[0, 40, 400, 4_000, random.position(300)]);
     compare(origin, &Writing::new(table.clone(), sink), tally);
@@ -79,7 +83,7 @@ fn damaged_tables() {
         ("partial", &[(0, 200), (1, 200), (2, 200), (32, 200), (53, 500)]),
         ("prime", &[(0, 500), (1, 50), (32, 200)]),
         ("reduce", &[(1, 500), (31, 200), (33, 500)]),
-        ("list", &[(1, 500), (41, 500), (42, 500), (56, 500)]),
+        ("list", &[(1, 500), (2, 30), (41, 500), (42, 500), (56, 500), (57, 700)]),
         ("list_negation", &[(0, 500), (1, 500), (41, 500), (42, 500), (56, 500)]),
         ("walk", &[(0, 200), (1, 50), (41, 500), (42, 200), (54, 1_000), (55, 200), (56, 200)]),
         ("write", &[(1, 5_000), (16, 5_000), (21, 1_000), (22, 3_000)]),

@@ -15,6 +15,7 @@ use crate::oracle::script::MOST_STEPS;
 use crate::oracle::table::{Table, MOST_CHILDREN, MOST_NODES, NODE_WORDS};
 use crate::oracle::text::MOST_BYTES;
 use crate::oracle::weights::MOST_WEIGHT;
+use crate::pairs;
 use crate::partials;
 use crate::random::Random;
 use crate::scripts;
@@ -43,7 +44,8 @@ fn largest_work(seed: u64) -> u64 {
     for listed in Listed::BOTH {
         for (table, capacity) in [(&table, 300), (&clauses, 4_096), (&parity, 4_096)] {
             let weights = weights::right(&random, table.variables);
-            compare("limits", &Listing::fitting(listed, table.clone(), &weights, capacity, seed), &mut tally);
+            let listing = Listing::fitting(listed, table.clone(), &weights, capacity, seed);
+            compare("limits", &listing.with_pairs(pairs::right(&random, table.variables, &[])), &mut tally);
         }
     }
     compare("limits", &Writing::new(table.clone(), MOST_BYTES), &mut tally);

@@ -1,14 +1,19 @@
-//! Listings of random accepted tables by any weights at all capacities and buffer lengths, and views of them.
+//! Listings of random accepted tables by any weights and any pairs at all capacities and buffer lengths, and views of them.
 
 use crate::cases::listings::{Listing, View};
 use crate::circuits;
 use crate::compare::{compare, fail, trace};
 use crate::oracle::answers::Oracle;
 use crate::oracle::function::{Listed, Term};
+use crate::oracle::pairs::Pairs;
 use crate::oracle::table::Table;
+use crate::pairs;
 use crate::random::Random;
 use crate::tally::Tally;
 use crate::weights;
+
+/// Makes pairs beside some rows.
+type MakesPairs = fn(&Random, u32, &[Term]) -> Pairs;
 
 /// One table with its clearances and its blockers, listed in many ways.
 pub struct Listings<'a> {
@@ -38,13 +43,31 @@ impl<'a> Listings<'a> {
         &self.primes[listed as usize][node]
     }
 
+    /// Without pairs.
     pub fn list(&mut self, listed: Listed, weights: &[u32], capacity: u32, lengths: [usize; 3], noise: u64) {
-        let case = Listing::new(listed, self.table.clone(), weights, capacity, lengths, noise);
+        self.compare(&Listing::new(listed, self.table.clone(), weights, capacity, lengths, noise));
+    }
+
+    /// Clearances by pairs, with buffers just enough.
+    pub fn show(&mut self, weights: &[u32], pairs: Pairs, capacity: u32, noise: u64) {
+        self.compare(&Listing::fitting(Listed::Clearances, self.table.clone(), weights, capacity, noise).with_pairs(pairs));
+    }
+
+    /// A listing of the table.
+    pub fn compare(&mut self, case: &Listing) {
         trace(&self.origin, || case.clone());
-        match case.compared_by(&self.oracle, &self.primes[listed as usize]) {
+        match case.compared_by(&self.oracle, &self.primes[case.listed as usize]) {
             Ok(seen) => self.tally.see(seen),
-            Err(_) => fail(&self.origin, &case),
+            Err(_) => fail(&self.origin, case),
         }
+    }
+
+    /// With these weights, with pairs where clearances are listed, and with all five buffers of these lengths where five are lent.
+    fn list_by(&mut self, random: &Random, listed: Listed, weights: &[u32], pairs: MakesPairs, capacity: u32, lengths: [usize; 5]) {
+        let [positives, negatives, counts, shown @ ..] = lengths;
+        let case = Listing::new(listed, self.table.clone(), weights, capacity, [positives, negatives, counts], random.next());
+        let rows = self.primes[listed as usize].last().expect("a node");
+        self.compare(&case.with_pairs(pairs(random, self.table.variables, rows)).with_shown(shown));
     }
 
     /// The buffer lengths that are just enough.
@@ -53,15 +76,25 @@ impl<'a> Listings<'a> {
         [rows, rows, self.table.nodes as usize]
     }
 
+    /// Those of all five buffers.
+    fn enough_shown(&self, capacity: u32) -> [usize; 5] {
+        let [positives, negatives, counts] = self.enough(capacity);
+        [positives, negatives, counts, capacity as usize, capacity as usize]
+    }
+
     /// Both listings, each at some capacities made from the number of its own rows, with buffers just enough; at times by wrong weights
-    /// too.
+    /// too, or by wrong pairs.
     pub fn list_around<const K: usize>(&mut self, random: &Random, capacities: impl Fn(u32) -> [u32; K]) {
         let variables = self.table.variables;
         for listed in Listed::BOTH {
             for capacity in capacities(self.whole(listed)) {
-                self.list(listed, &weights::right(random, variables), capacity, self.enough(capacity), random.next());
+                let enough = self.enough_shown(capacity);
+                self.list_by(random, listed, &weights::right(random, variables), pairs::right, capacity, enough);
                 if random.once_in(8) {
-                    self.list(listed, &weights::wrong(random, variables), capacity, self.enough(capacity), random.next());
+                    self.list_by(random, listed, &weights::wrong(random, variables), pairs::any, capacity, enough);
+                }
+                if listed == Listed::Clearances && random.once_in(8) {
+                    self.list_by(random, listed, &weights::right(random, variables), pairs::wrong, capacity, enough);
                 }
             }
         }
@@ -69,14 +102,14 @@ impl<'a> Listings<'a> {
 
     /// Buffers that are just enough, longer by different lengths, and one of them too short by one or by more.
     fn list_with_all_lengths(&mut self, random: &Random, listed: Listed, capacity: u32) {
-        let (enough, variables) = (self.enough(capacity), self.table.variables);
-        self.list(listed, &weights::right(random, variables), capacity, enough, random.next());
+        let (enough, variables) = (self.enough_shown(capacity), self.table.variables);
+        self.list_by(random, listed, &weights::right(random, variables), pairs::right, capacity, enough);
         let longer = enough.map(|length| length + random.position(9));
-        self.list(listed, &weights::any(random, variables), capacity, longer, random.next());
+        self.list_by(random, listed, &weights::any(random, variables), pairs::any, capacity, longer);
         let mut short = enough.map(|length| length + random.position(3));
-        let buffer = random.position(3);
+        let buffer = random.position(if listed == Listed::Clearances { 5 } else { 3 });
         short[buffer] = enough[buffer].saturating_sub(random.choose(&[1, 1, 1 + random.position(enough[buffer].max(1))]));
-        self.list(listed, &weights::any(random, variables), capacity, short, random.next());
+        self.list_by(random, listed, &weights::any(random, variables), pairs::any, capacity, short);
     }
 
     /// The views of all nodes, and some that are out of range.
@@ -107,7 +140,7 @@ fn list_everything(listings: &mut Listings, random: &Random, listed: Listed) {
         }
     }
     let (above, weights) = (random.choose(&[4097, 5000, 1 << 31, u32::MAX]), weights::any(random, listings.table.variables));
-    listings.list(listed, &weights, above, [random.position(99), random.position(99), random.position(99)], random.next());
+    listings.list_by(random, listed, &weights, pairs::any, above, [(); 5].map(|()| random.position(99)));
 }
 
 #[test]
@@ -121,7 +154,7 @@ fn listings_of_accepted_tables() {
         Listed::BOTH.iter().for_each(|&listed| list_everything(&mut listings, &random, listed));
     }
     tally.expect(&[
-        ("list", &[(0, 30), (1, 10_000), (41, 10_000), (42, 5_000), (56, 1_500)]),
+        ("list", &[(0, 30), (1, 6_000), (2, 1_500), (41, 10_000), (42, 5_000), (56, 1_500), (57, 1_500)]),
         ("list_negation", &[(0, 1_000), (1, 9_000), (41, 10_000), (42, 5_000), (56, 1_500)]),
         ("view", &[(0, 40_000), (1, 40_000)]),
     ]);

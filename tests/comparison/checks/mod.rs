@@ -7,6 +7,7 @@ mod lines;
 mod listed;
 mod negations;
 mod oracle;
+mod pairs;
 mod papers;
 mod partials;
 mod questions;

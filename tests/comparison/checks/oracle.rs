@@ -5,10 +5,12 @@ use crate::damage;
 use crate::oracle::answers::{Oracle, Verdict};
 use crate::oracle::function::{is_prime, Functions, Listed, Term};
 use crate::oracle::measurements::Measurements;
+use crate::oracle::pairs::Pairs;
 use crate::oracle::script::{self, Step, MOST_STEPS};
 use crate::oracle::table::{Node, Table};
 use crate::oracle::weights::ordered;
 use crate::oracle::{grammar, refused, rows, text, walk, writer, Refused};
+use crate::pairs;
 use crate::partials;
 use crate::random::Random;
 use crate::scripts;
@@ -135,6 +137,37 @@ fn rows_in_order_and_single_comparisons_agree() {
             assert!(ordered[index + 1..].iter().all(|later| before(row, later) && !before(later, row)), "seed {seed}, {row:?}");
         }
     }
+}
+
+/// A row is left out exactly if two of its yes marks are a pair, in either order; a list is refused exactly if the pair that was put
+/// into it is none.
+#[test]
+fn pairs_and_sets_of_pairs_agree() {
+    let mut left_out = [0, 0];
+    for seed in 0..2_000 {
+        let random = Random::of(0x2300, seed);
+        let variables = random.between(2, 40) as u32;
+        let terms: Vec<Term> = (0..10).map(|_| partials::term(&random, variables)).collect();
+        let mut pairs = pairs::right(&random, variables, &terms);
+        assert_eq!(pairs.check(variables), Ok(()), "seed {seed}, {pairs:?}");
+        let sets: HashSet<(u32, u32)> =
+            pairs.firsts.iter().zip(&pairs.seconds).map(|(&first, &second)| (first.min(second), first.max(second))).collect();
+        for term in &terms {
+            let yes: Vec<u32> = (0..variables).filter(|variable| term.positive >> variable & 1 == 1).collect();
+            let any = yes.iter().enumerate().any(|(place, low)| yes[place..].iter().any(|high| sets.contains(&(*low, *high))));
+            assert_eq!(pairs.leave_out(*term), any, "seed {seed}, {term:?}, {pairs:?}");
+            left_out[usize::from(any)] += 1;
+        }
+        assert_eq!(pairs::wrong(&random, variables, &terms).check(variables), refused(57, 0), "seed {seed}");
+        let (first, second) = (random.below(u64::from(variables) + 2) as u32, random.below(u64::from(variables) + 2) as u32);
+        pairs.firsts.push(first);
+        assert_eq!(pairs.check(variables), refused(57, 0), "seed {seed}, {pairs:?}");
+        pairs.seconds.push(second);
+        let is_pair = (0..variables).any(|low| (low + 1..variables).any(|high| [(low, high), (high, low)].contains(&(first, second))));
+        assert_eq!(pairs.check(variables).is_ok(), is_pair, "seed {seed}, {pairs:?}");
+        assert_eq!(Pairs::new(&pairs.seconds, &pairs.firsts).check(variables).is_ok(), is_pair, "seed {seed}, {pairs:?}");
+    }
+    assert!(left_out.iter().all(|&rows| rows > 3_000), "{left_out:?} rows stay and are left out");
 }
 
 /// The clearances, or blockers, of every node.

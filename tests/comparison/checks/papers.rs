@@ -1,5 +1,5 @@
 //! The table P1 to P12, the worked example and a conjunction of three, by both sides: the answers stand here as the scope gives them,
-//! and the blockers, the conjunction, a walk and orders by weights as worked out by hand from the definitions.
+//! and the blockers, the conjunction, a walk, orders by weights and shown lists as worked out by hand from the definitions.
 
 use crate::cases::listings::Listing;
 use crate::cases::partials;
@@ -13,8 +13,9 @@ use crate::engine;
 use crate::oracle::answers::{Completions, Oracle, Verdict};
 use crate::oracle::function::Listed::{Blockers, Clearances};
 use crate::oracle::function::{Listed, Term};
-use crate::oracle::listing::Buffers;
+use crate::oracle::listing::{self, Buffers, Shown};
 use crate::oracle::measurements::Measurements;
+use crate::oracle::pairs::Pairs;
 use crate::oracle::script::{self, Step};
 use crate::oracle::table::{Table, NODE_WORDS};
 use crate::oracle::walk::{self, Lent};
@@ -206,6 +207,46 @@ fn orders_by_hand() {
             assert_eq!(of_oracle, rows, "{listed:?} of {} by {weights:?}", KNOWN[place].text);
             same_on_both_sides(Listing::fitting(listed, table.clone(), weights, rows.len() as u32, 5));
         }
+    }
+}
+
+/// A circuit of the table by its place, weights, pairs, and the clearances that are shown: P4, P9, P10 and P12, and the conjunction of
+/// three. P9 has two rows with two marks of yes, +0 +1 and +0 +2; P12 and P10 have none, and -1 +2 of P9 has one of each.
+const PAIRED: [(usize, &[u32], &[(u32, u32)], Rows); 16] = [
+    (3, &[0, 0], &[(0, 1), (1, 0)], &["+0 -1"]),
+    (8, &[0, 0, 0], &[], &["-0 -1", "+0 +1", "+0 +2", "-1 +2"]),
+    (8, &[0, 0, 0], &[(0, 1)], &["-0 -1", "+0 +2", "-1 +2"]),
+    (8, &[0, 0, 0], &[(1, 0)], &["-0 -1", "+0 +2", "-1 +2"]),
+    (8, &[0, 0, 0], &[(0, 2), (0, 2), (2, 0)], &["-0 -1", "+0 +1", "-1 +2"]),
+    (8, &[0, 0, 0], &[(1, 2), (2, 1)], &["-0 -1", "+0 +1", "+0 +2", "-1 +2"]),
+    (8, &[0, 0, 0], &[(2, 0), (1, 2), (0, 1)], &["-0 -1", "-1 +2"]),
+    (8, &[30, 5, 10], &[(1, 0)], &["-1 +2", "-0 -1", "+0 +2"]),
+    (8, &[30, 5, 10], &[(2, 0), (0, 1)], &["-1 +2", "-0 -1"]),
+    (9, &[0, 0, 0, 0], &[(2, 3), (0, 1), (3, 1)], &["+2", "-3"]),
+    (11, &[0, 0, 0, 0], &[(0, 1), (0, 2), (0, 3), (1, 2), (1, 3), (2, 3)], &["-2 -3", "+0 -1 -2", "-0 -1 +2", "-0 -1 -3"]),
+    (12, &[0, 0, 0, 0], &[(3, 0)], &["-1 +2 +3"]),
+    (12, &[0, 0, 0, 0], &[(2, 3)], &["+0 -1 +3"]),
+    (12, &[0, 0, 0, 0], &[(2, 3), (0, 3)], &[]),
+    (12, &[2, 9, 1, 4], &[(0, 1), (1, 3), (0, 2), (1, 2)], &["-1 +2 +3", "+0 -1 +3"]),
+    (12, &[2, 9, 1, 4], &[(0, 3)], &["-1 +2 +3"]),
+];
+
+#[test]
+fn shown_lists_by_hand() {
+    for (place, weights, pairs, rows) in PAIRED {
+        let (table, pairs) = (engine_against_paper(&KNOWN[place]), Pairs::of(pairs));
+        let oracle = Oracle::new(&table);
+        let primes = oracle.accepted().expect("accepted").primes(Clearances);
+        let whole = primes.last().expect("a node").len();
+        let length = table.nodes as usize * whole;
+        let listing = Buffers { positives: vec![7; length], negatives: vec![7; length], counts: vec![7; table.nodes as usize] };
+        let mut lent = Shown { listing, positives: vec![7; whole], negatives: vec![7; whole] };
+        let shown = listing::list_shown(&oracle, &primes, weights, &pairs, whole as u32, &mut lent).expect("listed") as usize;
+        let of_oracle: Vec<String> =
+            lent.positives.iter().zip(&lent.negatives).take(shown).map(|(positive, negative)| row(*positive, *negative)).collect();
+        assert_eq!(of_oracle, rows, "{} by {weights:?} and {pairs:?}", KNOWN[place].text);
+        same_on_both_sides(Listing::fitting(Clearances, table.clone(), weights, whole as u32, 5).with_pairs(pairs.clone()));
+        same_on_both_sides(Listing::fitting(Clearances, table, weights, whole as u32 - 1, 5).with_pairs(pairs));
     }
 }
 

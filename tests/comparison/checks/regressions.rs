@@ -10,6 +10,7 @@ use crate::cases::walks::Walk;
 use crate::cases::writings::Writing;
 use crate::compare::{compare, Case};
 use crate::oracle::function::Listed::{Blockers, Clearances};
+use crate::oracle::pairs::Pairs;
 use crate::oracle::table::{Node, Table};
 use crate::tally::Tally;
 
@@ -33,6 +34,12 @@ fn regressions() {
     again(Listing::new(Clearances, worked(), &[30, 5, 10], 4, [20, 20, 5], 1));
     again(Listing::new(Clearances, worked(), &[0, 0, 0], 3, [15, 15, 5], 1));
     again(Listing::new(Clearances, worked(), &[0, 0, 1001], 3, [15, 15, 5], 1));
+    again(
+        Listing::new(Clearances, worked(), &[30, 5, 10], 4, [20, 20, 5], 1).with_pairs(Pairs::new(&[1, 0], &[0, 2])).with_shown([4, 5]),
+    );
+    again(Listing::new(Clearances, worked(), &[0, 0, 0], 3, [15, 15, 5], 1).with_pairs(Pairs::new(&[0], &[1])).with_shown([3, 3]));
+    again(Listing::new(Clearances, worked(), &[0, 0, 0], 3, [15, 15, 5], 1).with_pairs(Pairs::new(&[0, 1], &[1])).with_shown([3, 3]));
+    again(Listing::new(Clearances, worked(), &[0, 0], 4, [20, 20, 5], 1).with_pairs(Pairs::new(&[0], &[3])).with_shown([4, 3]));
     again(Listing::new(Blockers, worked(), &[1000, 1000, 1000], 2, [10, 10, 5], 1));
     again(Listing::new(Blockers, worked(), &[0, 0, 0], 1, [5, 5, 5], 1));
     again(Listing::new(Blockers, worked(), &[0, 0], 1, [5, 4, 5], 1));

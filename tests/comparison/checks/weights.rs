@@ -64,7 +64,7 @@ fn weights_change_the_order_alone() {
 }
 
 /// The circuit of a function by its values; bit i of a place is the value of variable i. Decisions alone.
-fn circuit_of(values: u64, variables: u32) -> Vec<Node> {
+pub fn circuit_of(values: u64, variables: u32) -> Vec<Node> {
     let mut nodes = vec![Node::False, Node::True];
     let mut level: Vec<u32> = (0..1 << variables).map(|place| (values >> place & 1) as u32).collect();
     for variable in (0..variables).rev() {

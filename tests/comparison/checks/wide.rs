@@ -28,7 +28,7 @@ fn scattered_variables() {
         ("implies", &[(0, 5_000), (1, 5_000), (32, 5_000)]),
         ("prime", &[(0, 5_000), (1, 5_000), (32, 5_000)]),
         ("reduce", &[(1, 5_000), (31, 1_000), (33, 5_000)]),
-        ("list", &[(1, 4_000), (42, 2_000), (56, 500)]),
+        ("list", &[(1, 4_000), (2, 700), (42, 2_000), (56, 500), (57, 500)]),
         ("list_negation", &[(0, 500), (1, 4_000), (42, 2_000), (56, 500)]),
     ]);
 }
@@ -99,7 +99,7 @@ fn long_listings() {
         assert_eq!(Listed::BOTH.map(|listed| listings.whole(listed)), wholes, "{name}");
         listings.list_around(&random, |whole| [whole, whole - 1].map(|capacity| capacity.min(4_096)));
     }
-    tally.expect(&[("list", &[(1, 8), (42, 14)]), ("list_negation", &[(1, 10), (42, 12)])]);
+    tally.expect(&[("list", &[(1, 1), (2, 2), (42, 14)]), ("list_negation", &[(1, 10), (42, 12)])]);
 }
 
 /// Circuits that are not `false`, over up to 40 variables in all; at least two.
@@ -143,7 +143,7 @@ fn conjunctions() {
     }
     assert!(eight > 10, "{eight} conjunctions of eight only");
     assert!(longest[0] > 2_000 && longest[1] > 40, "the longest listings have {longest:?} rows");
-    tally.expect(&[("list", &[(1, 100), (42, 100)]), ("list_negation", &[(1, 250), (42, 140)])]);
+    tally.expect(&[("list", &[(1, 60), (2, 80), (42, 100), (57, 20)]), ("list_negation", &[(1, 250), (42, 140)])]);
 }
 
 /// Circuits of a middle size: hundreds of clearances and of blockers, made from many joined rows.
@@ -166,7 +166,7 @@ fn middle_listings() {
         }
     }
     assert!(longest.iter().all(|&rows| rows > 400), "the longest listings have {longest:?} rows");
-    tally.expect(&[("list", &[(1, 70), (42, 70)]), ("list_negation", &[(1, 70), (42, 70)])]);
+    tally.expect(&[("list", &[(1, 10), (2, 40), (42, 70), (57, 5)]), ("list_negation", &[(1, 70), (42, 70)])]);
 }
 
 /// The most nodes with the most room for each.
@@ -177,5 +177,6 @@ fn largest_listing() {
     let table = Table::of(40, &circuits::chain(&random, 8, 1_023));
     assert_eq!(table.nodes, 1_024);
     Listings::new("largest".to_string(), &table, &mut tally).list_around(&random, |whole| [whole, 4_096]);
-    tally.expect(&[("list", &[(1, 2)]), ("list_negation", &[(1, 2)])]);
+    tally.expect(&[("list_negation", &[(1, 2)])]);
+    assert!(tally.total() >= 4);
 }

@@ -8,6 +8,7 @@ pub mod function;
 pub mod grammar;
 pub mod listing;
 pub mod measurements;
+pub mod pairs;
 pub mod rows;
 pub mod script;
 pub mod table;

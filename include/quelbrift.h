@@ -283,8 +283,8 @@ quelbrift_answer quelbrift_reduce(const uint32_t *words, size_t words_length, ui
  * after 42 try a larger one, up to 4,096. A circuit may be refused by 42 for the one listing and done for the other.
  * Time: the circuits measured (docs/PERFORMANCE.md) take milliseconds, and the worst tables made to be slow took seconds. The worst time
  * grows with the third power of the capacity at each pick, 64 entries at a time. Minutes that are not all 0 add about 5 ns a row of each
- * node. Pairs take one step each and then, for each row of the last node, at most one test a variable, however many they are. A call
- * cannot be interrupted; a smaller capacity bounds it.
+ * node. Pairs take one step each and then, for each row of the last node, one test for each first variable of a pair that it marks yes,
+ * however many pairs there are. A call cannot be interrupted; a smaller capacity bounds it.
  */
 quelbrift_answer quelbrift_list(const uint32_t *words, size_t words_length, uint32_t variables, uint32_t nodes,
                                 const uint32_t *minutes, size_t minutes_length, const uint32_t *firsts, size_t firsts_length,

@@ -1,24 +1,24 @@
 -- Pairs folded into masks: a step of the fold, and what the masks say of a term.
 use Prim.Native.Nat.{ℕ, _+_, _^_, _<_, _≤_}
 use mathlib.Core.Path.{_≡_, sym, ap, subst, _∙_}
-use mathlib.Core.Bool.{Bool, true, _&&_, not}
+use mathlib.Core.Bool.{true, false, _&&_, not}
 use mathlib.Core.Logic.{_⊎_, inl, inr, ⊎-elim, _≢_}
 use mathlib.Core.List.{List}
-use native.Mathlib.Nat.{not-suc-le-zero, lt-of-lt-of-le}
+use native.Mathlib.Nat.{not-suc-le-zero}
 use native.Mathlib.Omega.{arith}
+use lib.Arith.{lt-of-le-ne}
+use lib.Bits.{bitAnd}
 use lib.Dec.{T, T-not, not-T}
 use lib.ListN.{length, getD, set, replicate}
 use lib.Seq.{getD-set-same, getD-set-other}
 use Rattle.buffers.proofs.Zeros.{zero-at}
 use Rattle.masks.specs.Mask.{width, bit, put, disjoint}
-use Rattle.masks.specs.Numbers.{every}
-use Rattle.masks.proofs.Masks.{bit-zero, put-same, put-other}
-use Rattle.masks.proofs.Numbers.{every-e}
-use Rattle.masks.proofs.Operators.{disjoint-at, disjoint-e, disjoint-i}
-use Rattle.masks.proofs.Tests.{and-l, and-r, not-and, not-not, along, same?}
+use Rattle.masks.proofs.Masks.{bit-zero, put-same, put-other, put-false-le}
+use Rattle.masks.proofs.Operators.{bit-and, disjoint-e, disjoint-i}
+use Rattle.masks.proofs.Tests.{and-i, and-l, and-r, along, same?}
 use Rattle.terms.specs.declared.Term.{Term}
 use Rattle.exclusions.specs.Exclusions.{firstAt, secondAt, respects, Exclusions}
-use Rattle.exclusions.specs.Partners.{Folded, Folds}
+use Rattle.exclusions.specs.Partners.{Folded}
 use Rattle.exclusions.proofs.Respects.{respects-i, respects-e}
 
 -- ---- a mask with a bit set has that bit and those that it had
@@ -116,41 +116,62 @@ module _ (e : Exclusions) where
   folded-next k h f p q = rw (p, q) (folded-marked k h f)
 
 -- ---- what the masks say of a term
--- the term has the positive literals of x and of a variable that x is first of a pair with
-abbrev pub hits : List ℕ → Term → ℕ → Bool
-hits partners t x = bit (t .positive) x && not (disjoint (getD partners x 0) (t .positive))
-
-module _ (N : ℕ) (e : Exclusions) (partners : List ℕ) (heads : ℕ) (f : Folds N e partners heads) (t : Term) where
-  -- none of the first variables
-  pub headless : N ≤ width → T (disjoint heads (t .positive)) → T (respects e t)
-  headless n d =
-      respects-i e t
-      (λ i l p q. let x : ℕ = firstAt e i in
-      ⊎-elim (λ (a : T (not (bit heads x))). T-not (bit heads x) a (f .folded .head i l))
-      (λ (a : T (not (bit (t .positive) x))). T-not (bit (t .positive) x) a p)
-      (disjoint-at heads (t .positive) d x (lt-of-lt-of-le (f .below i l) n)))
-
+module _ (e : Exclusions) (partners : List ℕ) (heads : ℕ) (f : Folded e (length (e .firsts)) partners heads) (t : Term) where
   -- both variables of a pair
-  pub hit : (x : ℕ) → T (hits partners t x) → T (not (respects e t))
-  hit x h =
+  pub hit : (x : ℕ) → T (bit (t .positive) x) → T (not (disjoint (getD partners x 0) (t .positive))) → T (not (respects e t))
+  hit x p h =
       let m : ℕ = getD partners x 0 in
-      let p : T (bit (t .positive) x) = and-l (bit (t .positive) x) (not (disjoint m (t .positive))) h in
       not-T (respects e t)
-      (λ r. T-not (disjoint m (t .positive)) (and-r (bit (t .positive) x) (not (disjoint m (t .positive))) h)
+      (λ r. T-not (disjoint m (t .positive)) h
       (disjoint-i m (t .positive)
       (λ y n q.
-      let (i, l, a, b) = f .folded .only x y n in
+      let (i, l, a, b) = f .only x y n in
       respects-e e t r i l (subst (λ (z : ℕ). T (bit (t .positive) z)) (sym a) p) (subst (λ (z : ℕ). T (bit (t .positive) z)) (sym b) q))))
 
   -- both of none
-  pub unhit : ((x : ℕ) → getD partners x 0 < 2 ^ width) → T (every N (λ x. not (hits partners t x))) → T (respects e t)
-  unhit fit h =
+  pub unhit : ((x : ℕ) → getD partners x 0 < 2 ^ width)
+      → ((x : ℕ) → T (bit heads x) → T (bit (t .positive) x) → T (disjoint (getD partners x 0) (t .positive))) → T (respects e t)
+  unhit fit none =
       respects-i e t
       (λ i l p q.
       let x : ℕ = firstAt e i in
-      let m : ℕ = getD partners x 0 in
-      ⊎-elim (λ (a : T (not (bit (t .positive) x))). T-not (bit (t .positive) x) a p)
-      (λ (a : T (not (not (disjoint m (t .positive))))).
-      disjoint-e m (t .positive) (fit x) (not-not (disjoint m (t .positive)) a) (secondAt e i) (f .folded .partner i l) q)
-      (not-and (bit (t .positive) x) (not (disjoint m (t .positive)))
-      (every-e N (λ j. not (hits partners t j)) h x (f .below i l))))
+      disjoint-e (getD partners x 0) (t .positive) (fit x) (none x (f .head i l) p) (secondAt e i) (f .partner i l) q)
+
+-- ---- the variables that are left to be tested
+-- rest has first variables that the term has true; of the others no pair is in it
+pub record Left (partners : List ℕ) (heads : ℕ) (t : Term) (rest : ℕ) : Type 0 where
+  pub inside : (x : ℕ) → T (bit rest x) → T (bit heads x) × T (bit (t .positive) x)
+  pub others : (x : ℕ) → T (bit heads x) → T (bit (t .positive) x) → T (bit rest x) ⊎ T (disjoint (getD partners x 0) (t .positive))
+
+module _ (partners : List ℕ) (heads : ℕ) (t : Term) where
+  pub left-start : Left partners heads t (bitAnd heads (t .positive))
+  left-start =
+      record {
+        inside = λ x h.
+            let b : T (bit heads x && bit (t .positive) x) = along (bit-and heads (t .positive) x) h in
+            (and-l (bit heads x) (bit (t .positive) x) b, and-r (bit heads x) (bit (t .positive) x) b);
+        others = λ x p q. inl (along (sym (bit-and heads (t .positive) x)) (and-i (bit heads x) (bit (t .positive) x) p q));
+      }
+
+  pub left-next : (rest x : ℕ) → Left partners heads t rest → T (disjoint (getD partners x 0) (t .positive))
+      → Left partners heads t (put rest x false)
+  left-next rest x l d =
+      record {
+        inside = λ y h. l .inside y (⊎-elim (same y h) (λ (n : y ≢ x). along (put-other rest x y false n) h) (same? y x));
+        others = λ y p q.
+            ⊎-elim (λ (a : y ≡ x). inr (subst (λ (z : ℕ). T (disjoint (getD partners z 0) (t .positive))) (sym a) d))
+            (λ (n : y ≢ x).
+            ⊎-elim (λ (b : T (bit rest y)). inl (along (sym (put-other rest x y false n)) b)) (λ a. inr a) (l .others y p q))
+            (same? y x);
+      }
+    where
+      same : (y : ℕ) → T (bit (put rest x false) y) → y ≡ x → T (bit rest y)
+      same y h a = absurd (along (ap (bit (put rest x false)) a ∙ put-same rest x false) h)
+
+-- a set bit cleared: less is left
+pub cleared-less : (rest x : ℕ) → T (bit rest x) → put rest x false < rest
+cleared-less rest x h =
+    let le : put rest x false ≤ rest = put-false-le rest x in
+    let differ : put rest x false ≢ rest =
+    λ e. along (sym (ap (λ (m : ℕ). bit m x) e) ∙ put-same rest x false) h in
+    lt-of-le-ne le differ

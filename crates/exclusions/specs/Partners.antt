@@ -18,11 +18,6 @@ pub record Folded (e : Exclusions) (k : ℕ) (partners : List ℕ) (heads : ℕ)
   pub only : (x y : ℕ) → T (bit (getD partners x 0) y) → (i : ℕ) × (i < k) × (firstAt e i ≡ x) × (secondAt e i ≡ y)
   pub head : (i : ℕ) → i < k → T (bit heads (firstAt e i))
 
--- exclusions of variables below N, all folded
-pub record Folds (N : ℕ) (e : Exclusions) (partners : List ℕ) (heads : ℕ) : Type 0 where
-  pub below : (i : ℕ) → i < length (e .firsts) → firstAt e i < N
-  pub folded : Folded e (length (e .firsts)) partners heads
-
 -- the terms that respect the exclusions
 abbrev pub respecting : Exclusions → List Term → List Term
 respecting e l = keep (respects e) l

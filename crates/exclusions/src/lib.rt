@@ -2,15 +2,16 @@
 // variable, so that the test of a term does not depend on how many pairs there are.
 ghost use mathlib.Core.Path.{_≡_};
 ghost use mathlib.Core.Bool.{true, not};
-ghost use Prim.Native.Nat.{_≤_};
+ghost use Prim.Native.Nat.{_^_, _<_, _≤_};
 ghost use lib.ListN.{length, replicate};
 ghost use Rattle.terms.specs.Term.{termsOf};
 ghost use Rattle.insertion.specs.Filled.{bySign};
 ghost use Rattle.exclusions.specs.Exclusions.{exclusions, distinct, proper, respects, Exclusions};
-ghost use Rattle.exclusions.specs.Partners.{Folded, Folds, Filtered};
-use masks::has_bit;
+ghost use Rattle.exclusions.specs.Partners.{Folded, Filtered};
 use masks::is_disjoint;
+use masks::lowest_bit;
 use masks::with_bit;
+use masks::without_bit;
 use terms::Term;
 
 // Two different variables below the number of variables.
@@ -40,7 +41,7 @@ pub fn fold(partners: &mut [u64], firsts: &[u32], seconds: &[u32]) -> u64
     requires { ⌜ (now partners ≡ replicate (length (now partners)) 0) × (length (now partners) ≤ 64)
         × (proper (length (now partners)) (exclusions (now firsts) (now seconds)) ≡ true) ⌝ }
     ensures { λ r. ⌜ Folded (exclusions (now (firsts .entry)) (now (seconds .entry))) (length (now (firsts .entry)))
-        (now (partners .exit)) r ⌝ }
+        (now (partners .exit)) r × (r < 2 ^ length (now (partners .entry))) ⌝ }
 {
     let mut heads = 0u64;
     for i in 0..firsts.len() {
@@ -51,19 +52,18 @@ pub fn fold(partners: &mut [u64], firsts: &[u32], seconds: &[u32]) -> u64
     heads
 }
 
-// The term has the positive literals of both variables of some pair. A term with none of the first variables is told at once; any other
-// takes a test for each of the variables.
-fn violates(partners: &[u64], heads: u64, variables: u32, t: Term) -> bool
-    requires { ⌜ (variables ≤ length (now partners)) × (variables ≤ 64) ⌝ }
-    ensures { λ r. ⌜ ((e : Exclusions) → Folds variables e (now (partners .entry)) heads → r ≡ not (respects e t)) ⌝ }
+// The term has the positive literals of both variables of some pair: a test for each of them that is the first of a pair.
+fn violates(partners: &[u64], heads: u64, t: Term) -> bool
+    requires { ⌜ (heads < 2 ^ length (now partners)) × (length (now partners) ≤ 64) ⌝ }
+    ensures { λ r. ⌜ ((e : Exclusions) → Folded e (length (e .firsts)) (now (partners .entry)) heads → r ≡ not (respects e t)) ⌝ }
 {
-    if is_disjoint(heads, t.positive) {
-        return false;
-    }
-    for x in 0..variables {
-        if has_bit(t.positive, x) & !is_disjoint(partners[x as usize], t.positive) {
+    let mut rest = heads & t.positive;
+    while rest != 0 {
+        let x = lowest_bit(rest);
+        if !is_disjoint(partners[x as usize], t.positive) {
             return true;
         }
+        rest = without_bit(rest, x);
     }
     false
 }
@@ -76,12 +76,11 @@ pub fn filter(
     ln: &[u64],
     partners: &[u64],
     heads: u64,
-    variables: u32,
 ) -> usize
     requires { ⌜ (length (now ln) ≡ length (now lp)) × (length (now lp) ≤ length (now positives))
-        × (variables ≤ length (now partners)) × (variables ≤ 64) ⌝ }
+        × (heads < 2 ^ length (now partners)) × (length (now partners) ≤ 64) ⌝ }
     requires { ⌜ (now positives ≡ replicate (length (now positives)) 0) × (now negatives ≡ replicate (length (now positives)) 0) ⌝ }
-    ensures { λ r. ⌜ ((e : Exclusions) → Folds variables e (now (partners .entry)) heads
+    ensures { λ r. ⌜ ((e : Exclusions) → Folded e (length (e .firsts)) (now (partners .entry)) heads
         → Filtered e (termsOf (now (lp .entry)) (now (ln .entry))) (length (now (positives .entry)))
         (bySign (now (positives .exit)) (now (negatives .exit))) r) ⌝ }
 {
@@ -89,7 +88,7 @@ pub fn filter(
     let mut k = 0;
     while k < lp.len() {
         let t = lists::term_at(lp, ln, k);
-        if !violates(partners, heads, variables, t) {
+        if !violates(partners, heads, t) {
             positives[count] = t.positive;
             negatives[count] = t.negative;
             count += 1;

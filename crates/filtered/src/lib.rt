@@ -60,7 +60,6 @@ fn filter_last(
         &negatives[at..end],
         &partners,
         heads,
-        shape.variables,
     ) as u32
 }
 

@@ -10,11 +10,11 @@ use native.Mathlib.Numerals.{one-add, add-one}
 use lib.Dec.{T, T-not, not-T, eqb, eqb→eq, lit<, eqb·zero-suc, eqb·suc-zero, eqb·suc-suc}
 use lib.Bits.{bitAnd, bitOr, bitXor, differ, and-step, or-step, xor-step, and-le-l, and-lt, or-lt, xor-lt}
 use lib.Pow.{pow-pos, pow-lt, pow-mono, shl-exact, shr-shr, mod-pow-add}
-use lib.Count.{ones, ones-step}
+use lib.Count.{ones, ones-step, trailingZeros, under}
 use lib.Arith.{lt-one, digits-div, digits-mod}
 use borrow.Author.Tests.{eq-eqb}
 use Rattle.masks.specs.Mask.{width, bit, put, size, subset, disjoint}
-use Rattle.masks.specs.Numbers.{digit, implied, count}
+use Rattle.masks.specs.Numbers.{digit, implied, count, Lowest}
 use Rattle.masks.proofs.Masks.{mod2, digits, half-lt, bit-low, bit-rest, bit-ext, bit-below, bit-zero, bit-put, put-lt}
 use Rattle.masks.proofs.Numbers.{every-e, every-i, count-first}
 use Rattle.masks.proofs.Tests.{and-i, and-l, and-r, not-and, implied-i, implied-e, is-true, is-false, along, same-test}
@@ -154,6 +154,26 @@ ones-size m h = sym (count-ones width m h)
 -- the bits of a mask of n variables, counted below n
 pub size-within : (n m : ℕ) → n ≤ width → m < 2 ^ n → size m ≡ count n (bit m)
 size-within n m l h = sym (ones-size m (lt-of-lt-of-le h (pow-mono l))) ∙ sym (count-ones n m h)
+
+-- ---- `trailing_zeros`
+pub trailing-lowest : (k m : ℕ) → m < 2 ^ k → 0 < m → Lowest (bit m) (trailingZeros k m)
+unfolding trailingZeros bit
+trailing-lowest zero m h pos = let e : m ≡ 0 = lt-one h in absurd (omega arith)
+trailing-lowest (suc k) m h pos = by (m % 2) refl (mod2 m) (trailing-lowest k (m / 2) (half-lt k m h))
+  where
+    by : (d : ℕ) → m % 2 ≡ d → d < 2 → (0 < m / 2 → Lowest (bit (m / 2)) (trailingZeros k (m / 2)))
+        → Lowest (bit m) (under d (trailingZeros k (m / 2)))
+    by zero e l rest =
+        let (here, none) = rest (omega (arith, pos, e)) in (
+          here,
+          λ i. elim i [
+            | zero ↦ λ below. along (sym (ap (λ (x : ℕ). not (eqb x 1)) e)) tt
+            | suc i ↦ λ below. none i (le-of-suc-le-suc below)
+          ],
+        )
+    by (suc d) e l rest =
+        let one : m % 2 ≡ 1 = omega arith in
+        (along (sym (ap (λ (x : ℕ). eqb x 1) one)) tt, λ i below. absurd (not-suc-le-zero below))
 
 -- ---- masks as sets
 pub subset-e : (a b : ℕ) → a < 2 ^ width → T (subset a b) → (i : ℕ) → T (bit a i) → T (bit b i)

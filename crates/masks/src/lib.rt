@@ -3,6 +3,7 @@ ghost use mathlib.Core.Path.{_≡_};
 ghost use mathlib.Core.Bool.{true, false};
 ghost use Prim.Native.Nat.{_<_};
 ghost use Rattle.masks.specs.Mask.{bit, put, within, size, subset, disjoint};
+ghost use Rattle.masks.specs.Numbers.{Lowest};
 
 // Bit i of the mask.
 pub fn has_bit(mask: u64, i: u32) -> bool
@@ -33,6 +34,14 @@ pub fn count_bits(mask: u64) -> u32
     ensures { λ r. ⌜ r ≡ size mask ⌝ }
 {
     u64::count_ones(mask)
+}
+
+// The place of the lowest set bit of a mask that has one.
+pub fn lowest_bit(mask: u64) -> u32
+    requires { ⌜ 0 < mask ⌝ }
+    ensures { λ r. ⌜ Lowest (bit mask) r ⌝ }
+{
+    u64::trailing_zeros(mask)
 }
 
 // No bit at n or above is set.

@@ -13,19 +13,19 @@ use Rattle.terms.specs.declared.Term.{Term}
 use Rattle.lists.proofs.Parts.{drop-terms, drop-end}
 use Rattle.insertion.specs.Filled.{bySign}
 use Rattle.exclusions.specs.Exclusions.{respects, Exclusions}
-use Rattle.exclusions.specs.Partners.{Folds}
+use Rattle.exclusions.specs.Partners.{Folded}
 use Rattle.exclusions.proofs.Filtering.{filtering-start, filtering-end, filtering-skip, filtering-keep, Filtering}
 use Rattle.exclusions.proofs.filter.Statement.{statement}
 use Rattle.exclusions.proofs.filter.Tie as tie
 
 abbrev Inv-loop : tie.InvT-loop
-Inv-loop positives₀ negatives₀ lp ln partners heads variables count₀ k₀ positives negatives count k =
+Inv-loop positives₀ negatives₀ lp ln partners heads count₀ k₀ positives negatives count k =
     (k ≤ length lp) × (count ≤ k) × (length positives ≡ length positives₀) × (length negatives ≡ length negatives₀)
-    × ((e : Exclusions) → Folds variables e partners heads
+    × ((e : Exclusions) → Folded e (length (e .firsts)) partners heads
     → Filtering e (termsOf lp ln) (drop k (termsOf lp ln)) (length positives₀) (bySign positives negatives) count)
 
 abbrev μ-loop : tie.MeasureT-loop
-μ-loop positives₀ negatives₀ lp ln partners heads variables count₀ k₀ positives negatives count k = length lp - k
+μ-loop positives₀ negatives₀ lp ln partners heads count₀ k₀ positives negatives count k = length lp - k
 
 -- at the start both slices are zeros, one for each entry of the first
 zeros : (s : tie.Start Inv-loop μ-loop) (b : Bool)
@@ -101,7 +101,7 @@ module _ (c : tie.After-violates Inv-loop μ-loop) where
       ∙ ap (λ (t : Term). t ∷ drop (turn .loop .k + 1) list) (sym (c .before .term-at .ensures))
 
   -- what the test says
-  module _ (e : Exclusions) (f : Folds (start .args .variables) e (start .args .partners .now) (start .args .heads)) where
+  module _ (e : Exclusions) (f : Folded e (length (e .firsts)) (start .args .partners .now) (start .args .heads)) where
     passes : not (c .violates .result) ≡ true → respects e own ≡ true
     passes h = was-true (respects e own) (sym (c .violates .ensures e f) ∙ was-false (c .violates .result) h)
 

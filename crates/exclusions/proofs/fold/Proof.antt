@@ -1,10 +1,13 @@
 -- `exclusions::fold` meets its contract. The loop's invariant: the first i pairs are folded.
-use Prim.Native.Nat.{ℕ, _-_, _<_, _≤_}
+use Prim.Native.Nat.{ℕ, _-_, _^_, _<_, _≤_}
 use mathlib.Core.Path.{_≡_, refl, sym, subst}
+use mathlib.Core.Bool.{true}
 use mathlib.Core.List.{List}
 use native.Mathlib.Omega.{arith}
 use lib.ListN.{length, length-set}
+use lib.Pow.{pow-pos}
 use borrow.Author.Needs.{needs}
+use Rattle.masks.proofs.Masks.{put-lt}
 use Rattle.exclusions.specs.Exclusions.{exclusions, firstAt, secondAt, Exclusions}
 use Rattle.exclusions.specs.Partners.{Folded}
 use Rattle.exclusions.proofs.Folding.{folded-start, folded-next}
@@ -15,6 +18,7 @@ use Rattle.exclusions.proofs.fold.Tie as tie
 abbrev Inv-loop : tie.InvT-loop
 Inv-loop partners₀ firsts seconds heads₀ i₀ i-end partners heads i =
     (i ≤ length firsts) × (length partners ≡ length partners₀) × Folded (exclusions firsts seconds) i partners heads
+    × (heads < 2 ^ length partners₀)
 
 abbrev μ-loop : tie.MeasureT-loop
 μ-loop partners₀ firsts seconds heads₀ i₀ i-end partners heads i = length firsts - i
@@ -46,6 +50,7 @@ loop-holds c =
       omega arith,
       refl,
       subst (λ (l : List ℕ). Folded e 0 l 0) (sym (c .before .before .before .pre .0)) (folded-start e (length (x .partners .now))),
+      pow-pos (length (x .partners .now)),
     )
 
 mul-x : tie.Need-mul-x Inv-loop μ-loop
@@ -97,6 +102,8 @@ loop-again c =
       omega arith,
       simp length-set (l .inv .1),
       folded-next (pairs t) (l .i) (omega (arith, first-fits t)) (l .inv .2) (c .before .with-bit .ensures) (c .with-bit2 .ensures),
+      subst (λ (m : ℕ). m < 2 ^ masks t) (sym (c .with-bit2 .ensures))
+          (put-lt (masks t) (l .heads) (firstAt (pairs t) (l .i)) true (first-fits t) (l .inv .3)),
     )
 
 same-length : tie.Need-same-length Inv-loop μ-loop
@@ -107,7 +114,7 @@ returns c =
     let l = c .before .loop in
     let x = c .before .before .before .before .before .args in
     let e : l .i ≡ length (x .firsts .now) = omega arith in
-    subst (λ (n : ℕ). Folded (exclusions (x .firsts .now) (x .seconds .now)) n (l .partners) (l .heads)) e (l .inv .2)
+    (subst (λ (n : ℕ). Folded (exclusions (x .firsts .now) (x .seconds .now)) n (l .partners) (l .heads)) e (l .inv .2), l .inv .3)
 
 pub fold-spec : {M : Type 1} → statement M
 fold-spec =

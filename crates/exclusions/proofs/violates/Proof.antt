@@ -1,90 +1,104 @@
--- `exclusions::violates` meets its contract. The loop's invariant: of no variable below x has the term a pair.
-use Prim.Native.Nat.{ℕ, _-_, _≤_}
-use mathlib.Core.Path.{_≡_, sym, ap, ap₂, _∙_}
-use mathlib.Core.Bool.{Bool, true, _&&_, not}
-use native.Mathlib.Numerals.{add-one}
+-- `exclusions::violates` meets its contract. The loop's invariant: of no first variable but those left is a pair in the term.
+use Prim.Native.Nat.{ℕ, _<_}
+use mathlib.Core.Path.{_≡_, sym, ap, subst, _∙_}
+use mathlib.Core.Bool.{not}
+use mathlib.Core.Logic.{⊎-elim}
 use native.Mathlib.Omega.{arith}
 use lib.Dec.{T}
+use lib.ListN.{length, getD}
 use borrow.Author.Needs.{needs}
-use Rattle.masks.specs.Mask.{disjoint}
-use Rattle.masks.specs.Numbers.{every}
-use Rattle.masks.proofs.Tests.{is-true, along}
+use Rattle.masks.specs.Mask.{bit, disjoint}
+use Rattle.masks.proofs.Masks.{bit-below, bit-zero}
+use Rattle.masks.proofs.Tests.{is-true, along, was-true}
 use Rattle.exclusions.specs.Exclusions.{respects}
-use Rattle.exclusions.proofs.Folding.{hits, headless, hit, unhit}
+use Rattle.exclusions.proofs.Folding.{hit, unhit, left-start, left-next, cleared-less, Left}
 use Rattle.exclusions.proofs.violates.Statement.{statement}
 use Rattle.exclusions.proofs.violates.Tie as tie
 
 abbrev Inv-loop : tie.InvT-loop
-Inv-loop partners heads variables t x₀ x = (x ≤ variables) × (every x (λ j. not (hits partners t j)) ≡ true)
+Inv-loop partners heads t rest₀ rest = Left partners heads t rest
 
 abbrev μ-loop : tie.MeasureT-loop
-μ-loop partners heads variables t x₀ x = variables - x
+μ-loop partners heads t rest₀ rest = rest
 
--- the test of a turn
-turn : (d : tie.After-is-disjoint2 Inv-loop μ-loop)
-    → let l = d .before .before .before .before in
-    let x = l .before .before .before .before .args in
-    (d .before .before .has-bit .result && not (d .is-disjoint2 .result)) ≡ hits (x .partners .now) (x .t) (l .loop .x)
-turn d = ap₂ (λ (p q : Bool). p && not q) (d .before .before .has-bit .ensures) (d .is-disjoint2 .ensures)
+-- a turn: its variable is left, so it is the first of a pair, and the term has it
+module _ (c : tie.After-lowest-bit Inv-loop μ-loop) where
+  abbrev turn : tie.At-loop Inv-loop μ-loop
+  turn = c .before .before
+
+  abbrev start : tie.Start Inv-loop μ-loop
+  start = turn .before .before .before
+
+  abbrev x : ℕ
+  x = c .lowest-bit .result
+
+  left : T (bit (turn .loop .rest) x)
+  left = c .lowest-bit .ensures .0
+
+  has : T (bit (start .args .heads) x) × T (bit (start .args .t .positive) x)
+  has = turn .loop .inv .inside x left
+
+  small : x < length (start .args .partners .now)
+  small = bit-below (length (start .args .partners .now)) (start .args .heads) x (start .pre .0) (has .0)
+
+loop-holds : tie.Need-loop-holds Inv-loop μ-loop
+loop-holds c = let s = c .before .before .args in left-start (s .partners .now) (s .heads) (s .t)
+
+lowest-bit-requires : tie.Need-lowest-bit-requires Inv-loop μ-loop
+lowest-bit-requires c κs = search needs
+
+cast-is-disjoint : tie.Need-cast-is-disjoint Inv-loop μ-loop
+cast-is-disjoint c = search needs
+
+mul-is-disjoint : tie.Need-mul-is-disjoint Inv-loop μ-loop
+mul-is-disjoint c = omega (arith, small c, start c .pre .1)
+
+shared-slice-read-is-disjoint : tie.Need-shared-slice-read-is-disjoint Inv-loop μ-loop
+shared-slice-read-is-disjoint c = small (c .before)
 
 is-disjoint-requires : tie.Need-is-disjoint-requires Inv-loop μ-loop
 is-disjoint-requires c κs = search needs
 
 returns : tie.Need-returns Inv-loop μ-loop
 returns c e f =
-    let x = c .before .before .before .args in
-    let apart : T (disjoint (x .heads) (x .t .positive)) = along (sym (c .if1 .taken) ∙ c .before .is-disjoint .ensures) tt in
-    sym (ap not (is-true (respects e (x .t))
-    (headless (x .variables) e (x .partners .now) (x .heads) f (x .t) (c .before .before .before .pre .1) apart)))
+    let d = c .before in
+    let b = d .before .before in
+    let s = start b .args in
+    sym (is-true (not (respects e (s .t)))
+    (hit e (s .partners .now) (s .heads) f (s .t) (x b) (has b .1)
+    (along (sym (c .if1 .taken) ∙ ap not (d .is-disjoint .ensures)) tt)))
 
-loop-holds : tie.Need-loop-holds Inv-loop μ-loop
-unfolding every
-loop-holds c = search needs
+without-bit-requires : tie.Need-without-bit-requires Inv-loop μ-loop
+without-bit-requires c κs = let b = c .before .before .before in omega (arith, small b, start b .pre .1)
 
-has-bit-requires : tie.Need-has-bit-requires Inv-loop μ-loop
-has-bit-requires c κs = search needs
+loop-less : tie.Need-loop-less Inv-loop μ-loop
+loop-less c =
+    let b = c .before .before .before .before in
+    let rest = turn b .loop .rest in
+    subst (λ (m : ℕ). m < rest) (sym (c .without-bit .ensures)) (cleared-less rest (x b) (left b))
 
-cast-is-disjoint : tie.Need-cast-is-disjoint Inv-loop μ-loop
-cast-is-disjoint c = search needs
-
-mul-is-disjoint : tie.Need-mul-is-disjoint Inv-loop μ-loop
-mul-is-disjoint c = search needs
-
-shared-slice-read-is-disjoint : tie.Need-shared-slice-read-is-disjoint Inv-loop μ-loop
-shared-slice-read-is-disjoint c = search needs
-
-is-disjoint-requires-2 : tie.Need-is-disjoint-requires-2 Inv-loop μ-loop
-is-disjoint-requires-2 c κs = search needs
+loop-again : tie.Need-loop-again Inv-loop μ-loop
+loop-again c =
+    let d = c .before .before in
+    let b = d .before .before in
+    let s = start b .args in
+    let l = turn b .loop in
+    let apart : T (disjoint (getD (s .partners .now) (x b) 0) (s .t .positive)) =
+    along (sym (was-true (d .is-disjoint .result) (c .before .if1 .left)) ∙ d .is-disjoint .ensures) tt in
+    subst (Left (s .partners .now) (s .heads) (s .t)) (sym (c .without-bit .ensures))
+    (left-next (s .partners .now) (s .heads) (s .t) (l .rest) (x b) (l .inv) apart)
 
 returns-2 : tie.Need-returns-2 Inv-loop μ-loop
 returns-2 c e f =
-    let l = c .before .before .before .before .before in
-    let x = l .before .before .before .before .args in
-    sym (is-true (not (respects e (x .t)))
-    (hit (x .variables) e (x .partners .now) (x .heads) f (x .t) (l .loop .x) (along (sym (c .if2 .taken) ∙ turn (c .before)) tt)))
-
-add-x : tie.Need-add-x Inv-loop μ-loop
-add-x c = search needs
-
-loop-less : tie.Need-loop-less Inv-loop μ-loop
-loop-less c = search needs
-
-loop-again : tie.Need-loop-again Inv-loop μ-loop
-unfolding every
-loop-again c =
-    let l = c .before .before .before .before .before in
-    (omega arith, rw add-one (ap₂ (λ (p q : Bool). not p && q) (sym (turn (c .before)) ∙ c .if2 .left) (l .loop .inv .1)))
-
-returns-3 : tie.Need-returns-3 Inv-loop μ-loop
-returns-3 c e f =
     let l = c .before in
-    let s = l .before .before .before in
-    let x = s .before .args in
-    let n : l .loop .x ≡ x .variables = omega arith in
-    let none : T (every (x .variables) (λ j. not (hits (x .partners .now) (x .t) j))) =
-    along (sym (l .loop .inv .1) ∙ ap (λ (k : ℕ). every k (λ j. not (hits (x .partners .now) (x .t) j))) n) tt in
-    sym (ap not (is-true (respects e (x .t))
-    (unhit (x .variables) e (x .partners .now) (x .heads) f (x .t) (λ j. omega (arith, s .shared-slice-known .given j)) none)))
+    let k = l .before .before in
+    let s = k .before .args in
+    let none : l .loop .rest ≡ 0 = omega arith in
+    sym (ap not (is-true (respects e (s .t))
+    (unhit e (s .partners .now) (s .heads) f (s .t) (λ j. omega (arith, k .shared-slice-known .given j))
+    (λ y p q.
+    ⊎-elim (λ (b : T (bit (l .loop .rest) y)). absurd (along (ap (λ (m : ℕ). bit m y) none ∙ bit-zero y) b)) (λ d. d)
+    (l .loop .inv .others y p q)))))
 
 pub violates-spec : {M : Type 1} → statement M
 violates-spec =
@@ -92,16 +106,14 @@ violates-spec =
     (tie.spec
     Inv-loop
     μ-loop
-    is-disjoint-requires
-    returns
     loop-holds
-    has-bit-requires
+    lowest-bit-requires
     cast-is-disjoint
     mul-is-disjoint
     shared-slice-read-is-disjoint
-    is-disjoint-requires-2
-    returns-2
-    add-x
+    is-disjoint-requires
+    returns
+    without-bit-requires
     loop-less
     loop-again
-    returns-3)
+    returns-2)

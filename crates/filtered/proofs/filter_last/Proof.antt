@@ -1,5 +1,5 @@
 -- `filtered::filter_last` meets its contract.
-use Prim.Native.Nat.{ℕ, pred, _+_, _-_, _*_, _≤_}
+use Prim.Native.Nat.{ℕ, pred, _+_, _-_, _*_, _^_, _<_, _≤_}
 use mathlib.Core.Path.{_≡_, refl, sym, ap, ap₂, subst, _∙_}
 use mathlib.Core.Bool.{true}
 use mathlib.Core.List.{List}
@@ -13,8 +13,8 @@ use Rattle.table.specs.Node.{maxNodes, maxVariables}
 use Rattle.terms.specs.Term.{termsOf}
 use Rattle.terms.specs.declared.Term.{Term}
 use Rattle.exclusions.specs.Exclusions.{exclusions, Exclusions}
-use Rattle.exclusions.specs.Partners.{respecting, Folds, Filtered}
-use Rattle.exclusions.proofs.Respects.{first-below, proper-wider}
+use Rattle.exclusions.specs.Partners.{respecting, Filtered}
+use Rattle.exclusions.proofs.Respects.{proper-wider}
 use Rattle.lists.specs.Capacity.{maxCapacity}
 use Rattle.insertion.specs.Filled.{bySign, masksOf}
 use Rattle.insertion.proofs.Parts.{length-masks}
@@ -87,12 +87,6 @@ folded c = c .before .before .before .before .before .before .before .before .be
 abbrev given : tie.After-partners3 → tie.Start
 given c = start (folded c .before)
 
-folds : (c : tie.After-partners3)
-    → Folds (given c .args .shape .variables) (pairs (given c)) (folded c .fold .last .0) (folded c .fold .result)
-folds c =
-    let s = given c in
-    record { below = first-below (s .args .shape .variables) (pairs s) (s .pre .0 .2); folded = folded c .fold .ensures }
-
 module _ (c : tie.After-filter) where
   abbrev s₀ : tie.Start
   s₀ = given (c .before)
@@ -105,7 +99,7 @@ module _ (c : tie.After-filter) where
       (λ (l : List Term). Filtered (pairs s₀) l (R s₀) (bySign (c .filter .last .0) (c .filter .last .1 .0)) (c .filter .result))
       (ap₂ termsOf (part s₀ (s₀ .args .positives .now)) (part s₀ (s₀ .args .negatives .now)))
       (subst (λ (k : ℕ). Filtered (pairs s₀) (lent-terms s₀) k (bySign (c .filter .last .0) (c .filter .last .1 .0)) (c .filter .result))
-      (shown-length s₀) (c .filter .ensures (pairs s₀) (folds (c .before))))
+      (shown-length s₀) (c .filter .ensures (pairs s₀) (folded (c .before) .fold .ensures .0)))
 
   -- no more than there is room for
   few-kept : c .filter .result ≤ R s₀
@@ -184,13 +178,13 @@ filter-requires c κs =
     let q = part-length s (x .negatives .now) (s .pre .0 .0 .negatives) in
     let zeros : _≡_ {A = List ℕ} (replicate (R s) 0) (replicate (length (x .shown-positives .now)) 0) =
     ap (λ (k : ℕ). replicate k 0) (sym (shown-length s)) in
-    let masks : x .shape .variables ≤ length (folded c .fold .last .0) =
-    le-trans (s .pre .0 .1) (le-of-eq (sym (folded c .fold .kept .0))) in (
+    let f = folded c .fold in
+    let heads : f .result < 2 ^ length (f .last .0) = subst (λ (k : ℕ). f .result < 2 ^ k) (sym (f .kept .0)) (f .ensures .1) in (
       (
         q ∙ sym p,
         le-trans (le-of-eq p) (le-trans (few s) (le-of-eq (sym (shown-length s)))),
-        masks,
-        le-trans (s .pre .0 .1) (omega arith),
+        heads,
+        omega (arith, f .kept .0),
       ),
       (s .pre .1 .0 ∙ zeros, s .pre .1 .1 ∙ zeros),
     )

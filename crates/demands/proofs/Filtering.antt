@@ -22,7 +22,7 @@ use Rattle.circuits.specs.Function.{function}
 use Rattle.insertion.specs.Filled.{masksOf}
 use Rattle.insertion.proofs.Parts.{length-masks}
 use Rattle.listing.specs.Listing.{nodePrimes, exceeds, cleared, filled, listTable, ListOut}
-use Rattle.listing.specs.Tested.{untouched}
+use Rattle.listing.specs.Guarded.{untouched}
 use Rattle.listing.proofs.Answers.{out-is}
 use Rattle.filtered.specs.Filtered.{shownPrimes, shownMasks, sufficesShown, sufficesAll, clearedAll, filledAll, filteredTable}
 use Rattle.filtered.specs.Filtered.{FilteredLent, FilteredOut}

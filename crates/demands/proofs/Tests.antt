@@ -9,7 +9,7 @@ use Rattle.masks.proofs.Tests.{along}
 use Rattle.table.specs.Outcome.{accepted, Outcome, answered, refused}
 use Rattle.text.proofs.Readers.{value-not, same-number}
 use Rattle.circuits.specs.Check.{check}
-use Rattle.listing.specs.Tested.{tested, guarded, Out}
+use Rattle.listing.specs.Guarded.{afterTests, guarded, Out}
 use Rattle.demands.specs.Demands.{At, Refusals, Answers, tableRefusals}
 use Rattle.demands.proofs.Answers.{among-left, answers-right, check-answers, among-other, Without}
 
@@ -37,24 +37,26 @@ other-value v [] = tt
 other-value v (t ∷ ts) = (value-not v (t .1) 0, other-value v ts)
 
 module _ {A B : Type 0} (b : B) (o : Out A B) where
-  tests-answers : (ts : List (Bool × ℕ)) (qs : Refusals) → Answers qs (o .answer) → Answers (testRefusals ts ++ qs) (tested ts b o .answer)
+  tests-answers : (ts : List (Bool × ℕ)) (qs : Refusals) → Answers qs (o .answer)
+      → Answers (testRefusals ts ++ qs) (afterTests ts b o .answer)
   tests-answers [] qs h = h
   tests-answers ((true, k) ∷ ts) qs h =
-      answers-right ((k, At 0) ∷ []) (testRefusals ts ++ qs) (tested ts b o .answer) (tests-answers ts qs h)
+      answers-right ((k, At 0) ∷ []) (testRefusals ts ++ qs) (afterTests ts b o .answer) (tests-answers ts qs h)
   tests-answers ((false, k) ∷ ts) qs h = inl (refl, refl)
 
-  tests-kept : (ts : List (Bool × ℕ)) (k p : ℕ) → (o .answer ≡ refused k p → o .after ≡ b) → tested ts b o .answer ≡ refused k p
-      → tested ts b o .after ≡ b
+  tests-kept : (ts : List (Bool × ℕ)) (k p : ℕ) → (o .answer ≡ refused k p → o .after ≡ b) → afterTests ts b o .answer ≡ refused k p
+      → afterTests ts b o .after ≡ b
   tests-kept [] k p own h = own h
   tests-kept ((true, j) ∷ ts) k p own h = tests-kept ts k p own h
   tests-kept ((false, j) ∷ ts) k p own h = refl
 
-  tests-passed : (ts : List (Bool × ℕ)) (a : Outcome A) → Other a ts → tested ts b o .answer ≡ a → tested ts b o ≡ o
+  tests-passed : (ts : List (Bool × ℕ)) (a : Outcome A) → Other a ts → afterTests ts b o .answer ≡ a → afterTests ts b o ≡ o
   tests-passed [] a other h = refl
   tests-passed ((true, k) ∷ ts) a other h = tests-passed ts a (other .1) h
   tests-passed ((false, k) ∷ ts) a other h = absurd (other .0 (sym h))
 
-  tests-unless : (ts : List (Bool × ℕ)) (k p : ℕ) → Passing k ts → (o .answer ≡ refused k p → ⊥) → tested ts b o .answer ≡ refused k p → ⊥
+  tests-unless : (ts : List (Bool × ℕ)) (k p : ℕ) → Passing k ts → (o .answer ≡ refused k p → ⊥)
+      → afterTests ts b o .answer ≡ refused k p → ⊥
   tests-unless [] k p pass own h = own h
   tests-unless ((true, j) ∷ ts) k p pass own h = tests-unless ts k p (pass .1) own h
   tests-unless ((false, j) ∷ ts) k p pass own h = along (sym (pass .0 (same-number j 0 k p h .0))) tt
@@ -73,7 +75,7 @@ module _ {A B : Type 0} (N n : ℕ) (w : List ℕ) (ts : List (Bool × ℕ)) (b 
       by : (c : Outcome (Unit {0})) → Answers (tableRefusals n) c
           → Answers (tableRefusals n ++ (testRefusals ts ++ qs)) (result c .answer)
       by (answered u) a =
-          answers-right (tableRefusals n) (testRefusals ts ++ qs) (tested ts b o .answer) (tests-answers b o ts qs h)
+          answers-right (tableRefusals n) (testRefusals ts ++ qs) (afterTests ts b o .answer) (tests-answers b o ts qs h)
       by (refused k i) a = among-left (tableRefusals n) (testRefusals ts ++ qs) k i a
 
   pub guarded-kept : (k p : ℕ) → (o .answer ≡ refused k p → o .after ≡ b) → out .answer ≡ refused k p → out .after ≡ b

@@ -35,7 +35,7 @@ use Rattle.queries.specs.Queries.{circuit, evaluation, modelCount, implicantTes
 use Rattle.partial.specs.Partial.{judgement, partialEvaluation}
 use Rattle.listing.specs.Listing.{lent, Lent, nodePrimes, padded, listedMasks, listedCounts, suffices, exceeds, cleared}
 use Rattle.listing.specs.Listing.{filled, listChecked, listTable, ListOut}
-use Rattle.listing.specs.Tested.{tested}
+use Rattle.listing.specs.Guarded.{afterTests}
 use Rattle.filtered.specs.Filtered.{shownPrimes, filteredLent, sufficesAll, clearedAll, filledAll, filteredChecked, filteredTable}
 use Rattle.filtered.specs.Filtered.{FilteredLent, FilteredOut}
 use Rattle.walk.specs.Walk.{checkSteps, walkListed, stepsFit, walkChecked, walkTable, WalkLent}
@@ -159,7 +159,7 @@ module _ (N n : ℕ) (w v : List ℕ) (long : wordsFor n ≤ length w) where
         where
           by : (o : Outcome (Unit {0})) → check N n w ≡ o → listChecked m N n F′ R b o ≡ listChecked m N n F R b o
           by (answered u) acc =
-              ap₂ (λ (x : Bool) (l : ListOut). tested ((suffices n R b, 41) ∷ (fitting N m, 56) ∷ []) b (cond x (cleared n R b) l))
+              ap₂ (λ (x : Bool) (l : ListOut). afterTests ((suffices n R b, 41) ∷ (fitting N m, 56) ∷ []) b (cond x (cleared n R b) l))
               (exceeds-unread R acc) filled-unread
           by (refused k i) e = refl
 
@@ -190,7 +190,7 @@ module _ (N n : ℕ) (w v : List ℕ) (long : wordsFor n ≤ length w) where
             → filteredChecked m e N n (function w′) R b o ≡ filteredChecked m e N n (function w) R b o
         by (answered u) acc =
             ap₂ (λ (x : Bool) (l : FilteredOut).
-            tested ((sufficesAll n R b, 41) ∷ (fitting N m, 56) ∷ (proper N e, 57) ∷ []) b (cond x (clearedAll n R b) l))
+            afterTests ((sufficesAll n R b, 41) ∷ (fitting N m, 56) ∷ (proper N e, 57) ∷ []) b (cond x (clearedAll n R b) l))
             (exceeds-unread true m R acc) (filled-all-unread acc)
         by (refused k i) e = refl
 

@@ -12,7 +12,7 @@ use Rattle.exclusions.specs.Exclusions.{proper, Exclusions}
 use Rattle.circuits.specs.Check.{check}
 use Rattle.circuits.specs.Function.{function}
 use Rattle.listing.specs.Listing.{exceeds, cleared, filled, Lent}
-use Rattle.listing.specs.Tested.{untouched, tested}
+use Rattle.listing.specs.Guarded.{untouched, afterTests}
 use Rattle.filtered.specs.Exact.{FilteredExact}
 use Rattle.filtered.specs.Filtered.{shownPrimes, shownMasks, filteredLent, sufficesAll, clearedAll, filledAll, filtered}
 use Rattle.filtered.specs.Filtered.{filteredChecked, filteredTable, Gives, FilteredLent, FilteredOut}
@@ -30,9 +30,9 @@ module _ (m : List ℕ) (e : Exclusions) (N n : ℕ) (F : ℕ → ℕ → Bool) 
   out = filteredChecked m e N n F R b accepted
 
   pub filtered-is : (x y z v : Bool) → sufficesAll n R b ≡ x → fitting N m ≡ y → proper N e ≡ z → exceeds m N n F R ≡ v
-      → out ≡ tested ((x, 41) ∷ (y, 56) ∷ (z, 57) ∷ []) b (cond v (clearedAll n R b) (filledAll m e N n F R b))
+      → out ≡ afterTests ((x, 41) ∷ (y, 56) ∷ (z, 57) ∷ []) b (cond v (clearedAll n R b) (filledAll m e N n F R b))
   filtered-is x y z v p q r s =
-      λ i. tested ((p i, 41) ∷ (q i, 56) ∷ (r i, 57) ∷ []) b (cond (s i) (clearedAll n R b) (filledAll m e N n F R b))
+      λ i. afterTests ((p i, 41) ∷ (q i, 56) ∷ (r i, 57) ∷ []) b (cond (s i) (clearedAll n R b) (filledAll m e N n F R b))
 
   -- ---- 41, 56 and 57
   pub gives-short : sufficesAll n R b ≡ false → Gives out b (Refused Buffers)

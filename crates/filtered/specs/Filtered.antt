@@ -15,7 +15,7 @@ use Rattle.exclusions.specs.Exclusions.{proper, respects, Exclusions}
 use Rattle.circuits.specs.Check.{check}
 use Rattle.circuits.specs.Function.{function}
 use Rattle.listing.specs.Listing.{nodePrimes, padded, suffices, exceeds, cleared, filled, Lent}
-use Rattle.listing.specs.Tested.{guarded, Out}
+use Rattle.listing.specs.Guarded.{guarded, Out}
 use Rattle.filtered.specs.declared.FilteredListing.{FilteredListing}
 use Rattle.filtered.specs.declared.FilteredListing.the-variants.{Listed, Refused}
 

@@ -15,7 +15,7 @@ use Rattle.circuits.specs.Function.{signedFunction}
 use Rattle.listing.specs.Exact.{Holds, Tried, Exact, Attempted}
 use Rattle.listing.specs.Listing.{listedMasks, listedCounts, suffices, exceeds, listed, ListResult, cleared, filled}
 use Rattle.listing.specs.Listing.{listChecked, listTable, lent, Lent, ListOut}
-use Rattle.listing.specs.Tested.{untouched}
+use Rattle.listing.specs.Guarded.{untouched}
 use Rattle.listing.specs.declared.Listing.{Listing}
 use Rattle.listing.specs.declared.Listing.the-variants.{Listed, Refused}
 use Rattle.listing.proofs.Bounds.{not-flip}

@@ -1,3 +1,3 @@
-pub mod Tested
+pub mod Guarded
 pub mod Listing
 pub mod Exact

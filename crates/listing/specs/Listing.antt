@@ -16,7 +16,7 @@ use Rattle.weighing.specs.Weights.{fitting}
 use Rattle.circuits.specs.Check.{check}
 use Rattle.circuits.specs.Function.{signedFunction}
 use Rattle.lists.specs.Capacity.{maxCapacity}
-use Rattle.listing.specs.Tested.{guarded, Out}
+use Rattle.listing.specs.Guarded.{guarded, Out}
 use Rattle.listing.specs.declared.Listing.{Listing}
 use Rattle.listing.specs.declared.Listing.the-variants.{Listed, Refused}
 

@@ -89,8 +89,8 @@ judgements =
     ∷ []
 
 -- shown lists of P9, whose clearances are 0 and 1 false, 0 and 1 true, 0 and 2 true, 2 true and 1 false
-abbrev filtered : Known → Known
-filtered k =
+abbrev shownLists : Known → Known
+shownLists k =
     -- no pair; one, reversed and repeated; one that no clearance has true in both; two
     shows 4 (exclusions [] []) (answered (term 0 3 ∷ term 3 0 ∷ term 5 0 ∷ term 4 2 ∷ []))
     (shows 4 (exclusions (1 ∷ 0 ∷ []) (0 ∷ 1 ∷ [])) (answered (term 0 3 ∷ term 5 0 ∷ term 4 2 ∷ []))
@@ -128,7 +128,7 @@ small =
     -- P9: with a capacity of 2 or 3 the clearances lack room, the blockers do not. By the weights 10, 0 and 3 the clearances weigh 10, 10,
     -- 13 and 3
     ∷ circuit "(circuit 3)\n(pick 0 (no 1) (pick 1 (yes 2) (true)))\n"
-    (filtered
+    (shownLists
     (accepts 5
     (weighing (10 ∷ 0 ∷ 3 ∷ []) (term 4 2 ∷ term 0 3 ∷ term 3 0 ∷ term 5 0 ∷ [])
     (these (term 0 3 ∷ term 3 0 ∷ term 5 0 ∷ term 4 2 ∷ []) ((3, false) ∷ (4, true) ∷ [])))

@@ -17,7 +17,7 @@ use Rattle.terms.specs.declared.Term.{Term}
 use Rattle.circuits.specs.Check.{check}
 use Rattle.queries.specs.Queries.{circuit}
 use Rattle.listing.specs.Listing.{listTable, Lent, ListOut}
-use Rattle.listing.specs.Tested.{untouched, tested, Out}
+use Rattle.listing.specs.Guarded.{untouched, afterTests, Out}
 use Rattle.walk.specs.Known.{known}
 
 -- ---- what is wrong with the steps
@@ -80,7 +80,7 @@ abbrev pub walkChecked : List ℕ → ℕ → ℕ → List ℕ → ℕ → List 
 walkChecked m N n w R es b (refused k i) = untouched k i b
 walkChecked m N n w R es b (answered u) =
     let l : ListOut = listTable true m N n w R (b .rows) in
-    tested ((stepsFit es b, 41) ∷ []) b (walkListed N (circuit n w) es b (l .after) (l .answer))
+    afterTests ((stepsFit es b, 41) ∷ []) b (walkListed N (circuit n w) es b (l .after) (l .answer))
 
 -- walking the steps with room for R rows a node
 unfoldable pub walkTable : List ℕ → ℕ → ℕ → List ℕ → ℕ → List Step → WalkLent → WalkOut

@@ -15,11 +15,11 @@ abbrev pub untouched : {A B : Type 0} → ℕ → ℕ → B → Out A B
 untouched k i b = record { answer = refused k i; after = b }
 
 -- the first test that fails refuses by its number; where all are passed it is o
-abbrev pub tested : {A B : Type 0} → List (Bool × ℕ) → B → Out A B → Out A B
-tested [] b o = o
-tested (t ∷ ts) b o = cond (t .0) (tested ts b o) (untouched (t .1) 0 b)
+abbrev pub afterTests : {A B : Type 0} → List (Bool × ℕ) → B → Out A B → Out A B
+afterTests [] b o = o
+afterTests (t ∷ ts) b o = cond (t .0) (afterTests ts b o) (untouched (t .1) 0 b)
 
 -- by the answer of the check
 abbrev pub guarded : {A B : Type 0} → Outcome (Unit {0}) → List (Bool × ℕ) → B → Out A B → Out A B
 guarded (refused k i) ts b o = untouched k i b
-guarded (answered u) ts b o = tested ts b o
+guarded (answered u) ts b o = afterTests ts b o

@@ -13,7 +13,7 @@ use lib.ListN.{length, getD, set, replicate}
 use lib.Seq.{getD-set-same, getD-set-other}
 use Rattle.buffers.proofs.Zeros.{zero-at}
 use Rattle.masks.specs.Mask.{width, bit, put, disjoint}
-use Rattle.masks.proofs.Masks.{bit-zero, put-same, put-other, put-false-le}
+use Rattle.masks.proofs.Masks.{bit-zero, put-same, put-other, put-keeps, put-false-le}
 use Rattle.masks.proofs.Operators.{bit-and, disjoint-e, disjoint-i}
 use Rattle.masks.proofs.Tests.{and-i, and-l, and-r, along, same?}
 use Rattle.terms.specs.declared.Term.{Term}
@@ -31,12 +31,6 @@ put-out m i j h = by (same? j i)
 
 put-here : (m i : ℕ) → T (bit (put m i true) i)
 put-here m i = along (sym (put-same m i true)) tt
-
-put-keeps : (m i j : ℕ) → T (bit m j) → T (bit (put m i true) j)
-put-keeps m i j h =
-    ⊎-elim (λ (e : j ≡ i). subst (λ (z : ℕ). T (bit (put m i true) z)) (sym e) (put-here m i))
-    (λ (n : j ≢ i). along (sym (put-other m i j true n)) h)
-    (same? j i)
 
 -- ---- so has a list of masks with bit y of mask x set
 abbrev marked : List ℕ → ℕ → ℕ → List ℕ

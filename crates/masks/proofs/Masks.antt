@@ -105,6 +105,14 @@ bit-put m i j b =
     (λ (n : j ≢ i). put-other m i j b n ∙ ap (λ (t : Bool). cond t b (bit m j)) (sym (ne-eqb j i n)))
     (same? j i)
 
+-- a mask with a bit set has those that it had
+pub put-keeps : (m i j : ℕ) → T (bit m j) → T (bit (put m i true) j)
+put-keeps m i j h = along (sym (bit-put m i j true)) (by (eqb j i))
+  where
+    by : (e : Bool) → T (cond e true (bit m j))
+    by true = tt
+    by false = h
+
 pub put-lt : (n m i : ℕ) (b : Bool) → i < n → m < 2 ^ n → put m i b < 2 ^ n
 unfolding put
 put-lt zero m i b l h = absurd (omega arith)

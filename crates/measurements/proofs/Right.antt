@@ -10,7 +10,7 @@ use lib.Signed.{ltZ}
 use borrow.Author.Tests.{ltb-false, lt-ltb, le-ltb}
 use Rattle.masks.specs.Mask.{width, bit, put}
 use Rattle.masks.specs.Numbers.{some, count}
-use Rattle.masks.proofs.Masks.{put-same, bit-put}
+use Rattle.masks.proofs.Masks.{put-same, put-keeps}
 use Rattle.masks.proofs.Numbers.{count-less, count-not, least-none, least-lowest}
 use Rattle.masks.proofs.Tests.{not-or, along}
 use Rattle.table.specs.Outcome.{accepted, Outcome, answered, refused, after}
@@ -34,13 +34,6 @@ pub record Right (N v : ℕ) (m : Measurements) (i : ℕ) : Type 0 where
 neither : (a b : Bool) → T (not a) → T (not b) → T (not (a || b))
 neither false b h k = k
 neither true b h k = h
-
-put-keeps : (s x i : ℕ) → T (bit s i) → T (bit (put s x true) i)
-put-keeps s x i h = along (sym (bit-put s x i true)) (by (eqb i x))
-  where
-    by : (e : Bool) → T (cond e true (bit s i))
-    by true = tt
-    by false = h
 
 module _ (N v : ℕ) (m : Measurements) where
   pub right-e : (i : ℕ) → T (not (wrong N v m i)) → Right N v m i

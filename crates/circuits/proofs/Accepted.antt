@@ -1,16 +1,18 @@
 -- What the check's acceptance says of a table.
-use Prim.Native.Nat.{ℕ, suc, _<_, _≤_}
+use Prim.Native.Nat.{ℕ, suc, pred, _<_, _≤_}
 use mathlib.Core.Path.{_≡_, refl}
 use mathlib.Core.Bool.{Bool, true, false, not, cond}
 use mathlib.Core.Logic.{⊎-elim}
 use mathlib.Core.List.{List, List·Memᴰ, List·Memᴰ·head, List·Memᴰ·tail, Memᴰ·cast}
 use native.Mathlib.Omega.{arith}
 use lib.Dec.{T, T-not, eqb, ltb, eqb→eq, lt→ltb, leb→le}
+use lib.ListN.{length}
 use Rattle.masks.specs.Mask.{width}
 use Rattle.masks.specs.Numbers.{some, least}
 use Rattle.masks.proofs.Numbers.{some-e}
 use Rattle.masks.proofs.Tests.{and-l, and-r, not-and, not-not}
-use Rattle.table.specs.Node.{nodeAt, children}
+use Rattle.table.specs.Layout.{wordsFor}
+use Rattle.table.specs.Node.{nodeAt, children, maxNodes}
 use Rattle.table.specs.Outcome.{accepted, refused, after, Outcome}
 use Rattle.table.specs.Words.{inRange, malformed, firstFault, checkWords}
 use Rattle.table.proofs.Checking.{accepted-by}
@@ -43,6 +45,18 @@ module _ {N n : ℕ} {w : List ℕ} (acc : Accepted N n w) where
 
   pub variables-wide : N ≤ width
   variables-wide = let l : N ≤ 40 = variables-le in omega arith
+
+  pub nodes-some : 1 ≤ n
+  nodes-some = leb→le 1 n (let r = acc .range in search (and-l, and-r))
+
+  pub nodes-le : n ≤ maxNodes
+  nodes-le = leb→le n maxNodes (let r = acc .range in search (and-l, and-r))
+
+  pub words-enough : wordsFor n ≤ length w
+  words-enough = leb→le (wordsFor n) (length w) (let r = acc .range in search (and-l, and-r))
+
+  pub last-below : pred n < n
+  last-below = let l : 1 ≤ n = nodes-some in omega arith
 
   -- a node that is not the last has a parent
   pub parent : (i : ℕ) → suc i < n → (j : ℕ) × (j < n) × List·Memᴰ i (children (nodeAt w j))

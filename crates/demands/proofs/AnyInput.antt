@@ -7,11 +7,11 @@ use Rattle.masks.specs.Mask.{within}
 use Rattle.masks.specs.Numbers.{count}
 use Rattle.table.specs.Outcome.{answered, refused}
 use Rattle.text_assignment.specs.Answers.{answeredMask}
-use Rattle.terms.specs.Prime.{implicant, prime, reduce}
+use Rattle.terms.specs.Prime.{implicant, prime, assignmentTerm, reduce}
 use Rattle.terms.specs.Term.{isTerm}
 use Rattle.terms.specs.declared.Term.{Term}
 use Rattle.checks.specs.Arguments.{checkAssignment, checkTerm}
-use Rattle.queries.specs.Queries.{circuit, evaluation, modelCount, implicantTest, primeTest, assignmentTerm, reduction}
+use Rattle.queries.specs.Queries.{circuit, evaluation, modelCount, implicantTest, primeTest, reduction}
 use Rattle.demands.specs.Demands.{At, Answers, tableRefusals, AnyInput}
 use Rattle.demands.proofs.Answers.{answers-test, check-answers, question-answers, tested-answers}
 use Rattle.demands.proofs.Filtering.{filter-answers, filter-unweighed, filter-weighed, filter-unpaired, filter-paired, filter-kept}

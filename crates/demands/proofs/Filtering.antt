@@ -11,13 +11,14 @@ use lib.ListN.{length, drop, replicate, length-append, length-replicate}
 use lib.Seq.{drop-at}
 use borrow.Author.Tests.{ltb-false}
 use Rattle.masks.proofs.Tests.{and-i, is-true, is-false}
-use Rattle.table.specs.Outcome.{Outcome, answered, refused}
+use Rattle.table.specs.Outcome.{accepted, Outcome, answered, refused}
 use Rattle.text.proofs.Readers.{value-not, same-number}
 use Rattle.terms.specs.Lists.{keep}
 use Rattle.terms.specs.declared.Term.{Term}
 use Rattle.weighing.specs.Weights.{fitting}
 use Rattle.exclusions.specs.Exclusions.{proper, respects, Exclusions}
 use Rattle.exclusions.proofs.Respects.{proper-even, first-below, second-below, pair-distinct, proper-i}
+use Rattle.circuits.specs.Check.{check}
 use Rattle.circuits.specs.Function.{function}
 use Rattle.insertion.specs.Filled.{masksOf}
 use Rattle.insertion.proofs.Parts.{length-masks}
@@ -159,14 +160,19 @@ module _ (m : List ℕ) (e : Exclusions) (N n : ℕ) (w : List ℕ) (R : ℕ) (b
   abbrev KeptPast : FilteredOut → Type 0
   KeptPast o = (drop R (o .after .positives) ≡ drop R (b .positives)) × (drop R (o .after .negatives) ≡ drop R (b .negatives))
 
-  pub filter-rest : (c : ℕ) → out .answer ≡ answered c → KeptPast out
+  pub filter-done : (c : ℕ) → out .answer ≡ answered c → (check N n w ≡ accepted) × (over ≡ false) × (out ≡ filledAll m e N n F R b)
   unfolding filteredTable
-  filter-rest c h =
+  filter-done c h =
       let (acc, g) = guarded-done N n w tests b (lists over) c h in
       let z : over ≡ false =
       done-fits (clearedAll n R b) (filledAll m e N n F R b) (length rows) refl refl over c
       (sym (ap (λ (o : FilteredOut). o .answer) g) ∙ h) in
-      subst KeptPast (sym (g ∙ ap lists z)) (
+      (acc, z, g ∙ ap lists z)
+
+  pub filter-rest : (c : ℕ) → out .answer ≡ answered c → KeptPast out
+  filter-rest c h =
+      let (acc, z, g) = filter-done c h in
+      subst KeptPast (sym g) (
         drop-at (shownMasks m e N n F R true) (drop R (b .positives)) R (shown-long z true),
         drop-at (shownMasks m e N n F R false) (drop R (b .negatives)) R (shown-long z false),
       )

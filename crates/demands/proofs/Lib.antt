@@ -11,4 +11,6 @@ pub mod Walked
 pub mod Unread
 pub mod AnyInput
 pub mod OneMeaning
+pub mod Entries
 pub mod WholeListing
+pub mod Duality

@@ -1,27 +1,25 @@
 -- Where the listing may be refused and what it leaves in the buffers; the view of one node's entries.
-use Prim.Native.Nat.{ℕ, pred, _+_, _*_, _<_, _≤_}
+use Prim.Native.Nat.{ℕ, _+_, _*_, _<_, _≤_}
 use mathlib.Core.Path.{_≡_, refl, sym, ap, subst, _∙_}
-use mathlib.Core.Bool.{Bool, true, false, _&&_, not, cond}
+use mathlib.Core.Bool.{Bool, true, false, _&&_, cond}
 use mathlib.Core.Logic.{_⊎_, inl, inr, _≢_}
 use mathlib.Core.List.{List, [], _∷_, _++_}
-use native.Mathlib.Nat.{le-trans}
 use native.Mathlib.Omega.{arith}
-use lib.Dec.{ltb, lt→ltb, ltb→lt, T, leb, not-T, leb→le, le→leb, nltb→le}
+use lib.Dec.{ltb, lt→ltb, ltb→lt, T, leb, not-T, leb→le, le→leb}
 use lib.ListN.{length, take, drop}
 use lib.Seq.{drop-at}
-use Rattle.masks.proofs.Tests.{and-i, and-l, and-r, is-true, is-false, along}
+use Rattle.masks.proofs.Tests.{and-i, and-l, and-r, is-true, is-false}
 use Rattle.table.specs.Node.{maxNodes}
 use Rattle.table.specs.Outcome.{accepted, answered, refused}
 use Rattle.weighing.specs.Weights.{fitting}
 use Rattle.weighing.proofs.Weights.{fitting-i, fitting-length, fitting-most}
 use Rattle.circuits.specs.Check.{check}
 use Rattle.circuits.specs.Function.{signedFunction}
-use Rattle.circuits.proofs.Accepted.{accepted-e}
-use Rattle.circuits.proofs.Largest.{no-more}
 use Rattle.lists.specs.Capacity.{maxCapacity}
-use Rattle.listing.specs.Listing.{nodePrimes, listedMasks, listedCounts, suffices, exceeds, cleared, filled}
+use Rattle.listing.specs.Listing.{listedMasks, listedCounts, suffices, exceeds, cleared, filled}
 use Rattle.listing.specs.Listing.{listTable, viewed, Lent, ListOut}
 use Rattle.listing.proofs.Answers.{out-is}
+use Rattle.listing.proofs.Last.{all-fit}
 use Rattle.listing.proofs.Table.{Fit, length-listed, length-counts}
 use Rattle.demands.specs.Demands.{At, Answers, tableRefusals, Room, Weights}
 use Rattle.demands.proofs.Tests.{guarded-answers, guarded-kept, guarded-done, guarded-refused, guarded-unless}
@@ -72,11 +70,8 @@ module _ (c : Bool) (m : List ℕ) (N n : ℕ) (w : List ℕ) (R : ℕ) (b : Len
 
   -- the listed parts fill the first n × R entries
   filled-past : check N n w ≡ accepted → over ≡ false → KeptPast (filled m N n F R b)
-  unfolding exceeds
   filled-past acc e =
-      let last : length (nodePrimes m N F (pred n)) ≤ R =
-      nltb→le R (length (nodePrimes m N F (pred n))) (along (ap not (sym e)) tt) in
-      let fit : Fit m N F R n = λ i l. le-trans (no-more (accepted-e N n w acc) c m i l) last in (
+      let fit : Fit m N F R n = all-fit c m N n w R acc e in (
         drop-at (listedMasks m N n F R true) (drop (n * R) (b .positives)) (n * R) (length-listed m N F R n true fit),
         drop-at (listedMasks m N n F R false) (drop (n * R) (b .negatives)) (n * R) (length-listed m N F R n false fit),
         drop-at (listedCounts m N n F) (drop n (b .counts)) n (length-counts m N F R n),
@@ -117,13 +112,17 @@ module _ (c : Bool) (m : List ℕ) (N n : ℕ) (w : List ℕ) (R : ℕ) (b : Len
       ap (λ (z : ListOut). z .answer)
       (out-is c m N n w R b (r .table) true false (exceeds m N n F R) (room-suffices r) (unfit-weights N m none) refl)
 
-  pub list-rest : out .answer ≡ answered tt → KeptPast out
+  -- a listing that is done has filled the buffers
+  pub list-done : out .answer ≡ answered tt → (check N n w ≡ accepted) × (over ≡ false) × (out ≡ filled m N n F R b)
   unfolding listTable
-  list-rest h =
+  list-done h =
       let (acc, e) = guarded-done N n w tests b (lists over) tt h in
       let z : over ≡ false =
       done-fits (cleared n R b) (filled m N n F R b) tt refl refl over tt (sym (ap (λ (o : ListOut). o .answer) e) ∙ h) in
-      subst KeptPast (sym (e ∙ ap lists z)) (filled-past acc z)
+      (acc, z, e ∙ ap lists z)
+
+  pub list-rest : out .answer ≡ answered tt → KeptPast out
+  list-rest h = let (acc, z, e) = list-done h in subst KeptPast (sym e) (filled-past acc z)
 
 -- ---- the view
 module _ (s : List ℕ) (R i c : ℕ) where

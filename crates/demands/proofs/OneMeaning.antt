@@ -13,18 +13,18 @@ use Rattle.text_assignment.proofs.Lines.{line-reading-is, line-reading-only}
 use Rattle.text_script.proofs.Lines.{script-reading-is, script-reading-only}
 use Rattle.text.proofs.Ordered.{tree-ordered}
 use Rattle.text.proofs.RoundTrip.{writes, written-read}
-use Rattle.terms.specs.Prime.{implicant, prime, reduce, Implicant, Prime}
+use Rattle.terms.specs.Prime.{implicant, prime, assignmentTerm, reduce, Implicant, Prime}
 use Rattle.terms.specs.Term.{IsTerm}
 use Rattle.terms.specs.declared.Term.{Term}
 use Rattle.terms.proofs.Implicants.{implicant-e, implicant-i, prime-e, prime-i}
+use Rattle.terms.proofs.Struck.{reduction-prime}
 use Rattle.terms.proofs.Terms.{isTerm-i}
 use Rattle.circuits.specs.Check.{check}
 use Rattle.circuits.proofs.Accepted.{accepted-e}
 use Rattle.circuits.proofs.Tables.{function-of}
 use Rattle.checks.specs.Arguments.{checkAssignment, checkTerm}
 use Rattle.checks.proofs.Arguments.{assignment-i, term-i}
-use Rattle.queries.specs.Queries.{circuit, evaluation, modelCount, implicantTest, primeTest, assignmentTerm, reduction}
-use Rattle.queries.proofs.Struck.{reduction-prime}
+use Rattle.queries.specs.Queries.{circuit, evaluation, modelCount, implicantTest, primeTest, reduction}
 use Rattle.demands.specs.Demands.{Decides, ReducedTo, Means, OneMeaning}
 use Rattle.demands.proofs.Partial.{partial-judged}
 use Rattle.demands.proofs.Walked.{walked}

@@ -3,13 +3,11 @@ use mathlib.Core.Path.{sym, _≡_, refl, ap, ap₂, _∙_}
 use Prim.Native.Nat.{ℕ, pred, _^_, _*_, _<_, _≤_}
 use mathlib.Core.Bool.{Bool, true, false, cond}
 use mathlib.Core.List.{List, [], _∷_, _++_, map, flatMap, List·Memᴰ, List·Memᴰ·head, List·Memᴰ·tail}
-use native.Mathlib.Omega.{arith}
-use lib.Dec.{ltb, leb→le}
+use lib.Dec.{ltb}
 use lib.ListN.{length, drop}
 use Rattle.masks.specs.Mask.{within}
 use Rattle.masks.specs.Numbers.{count, below}
 use Rattle.masks.proofs.Numbers.{below-out}
-use Rattle.masks.proofs.Tests.{and-l, and-r}
 use Rattle.steps.specs.declared.Step.{Step}
 use Rattle.table.specs.Layout.{wordsFor}
 use Rattle.table.specs.Node.{nodeAt}
@@ -19,7 +17,7 @@ use Rattle.table.proofs.Outcomes.{after-after}
 use Rattle.text.specs.Syntax.{print, Form}
 use Rattle.text.specs.Write.{nodeForm, tableText, writeChecked, writeTable}
 use Rattle.terms.specs.Lists.{keep}
-use Rattle.terms.specs.Prime.{implicant, prime, primes, reduce}
+use Rattle.terms.specs.Prime.{implicant, prime, primes, assignmentTerm, reduce}
 use Rattle.terms.specs.Term.{isTerm, mask}
 use Rattle.terms.specs.declared.Term.{Term}
 use Rattle.measurements.specs.Measurement.{entries, measuredTerm, checkMeasurements, Measurements}
@@ -27,11 +25,11 @@ use Rattle.weighing.specs.Weights.{fitting}
 use Rattle.exclusions.specs.Exclusions.{proper, respects, Exclusions}
 use Rattle.circuits.specs.Check.{check}
 use Rattle.circuits.specs.Function.{function, signed, signedFunction}
-use Rattle.circuits.proofs.Accepted.{accepted-e}
+use Rattle.circuits.proofs.Accepted.{accepted-e, last-below}
 use Rattle.circuits.proofs.Unread.{fault-same, node-same, function-same, malformed-same, range-same, check-same, withRest, rest-long}
 use Rattle.circuits.proofs.Unread.{rest-same, SameNodes}
 use Rattle.checks.specs.Arguments.{checkAssignment, checkTerm}
-use Rattle.queries.specs.Queries.{circuit, evaluation, modelCount, implicantTest, primeTest, assignmentTerm, reduction}
+use Rattle.queries.specs.Queries.{circuit, evaluation, modelCount, implicantTest, primeTest, reduction}
 use Rattle.partial.specs.Partial.{judgement, partialEvaluation}
 use Rattle.listing.specs.Listing.{lent, Lent, nodePrimes, padded, listedMasks, listedCounts, suffices, exceeds, cleared}
 use Rattle.listing.specs.Listing.{filled, listChecked, listTable, ListOut}
@@ -64,12 +62,8 @@ module _ (N n : ℕ) (w v : List ℕ) (long : wordsFor n ≤ length w) where
   check-unread : check N n w′ ≡ check N n w
   check-unread = check-same n w w′ same N long long′
 
-  -- an accepted table has a node
   node-there : check N n w ≡ accepted → pred n < n
-  node-there acc =
-      let r = accepted-e N n w acc .range in
-      let l : 1 ≤ n = leb→le 1 n (search (and-l, and-r)) in
-      omega arith
+  node-there acc = last-below (accepted-e N n w acc)
 
   -- ---- the questions: q asks something about the circuit's function
   question-unread : {A : Type 0} (q : (ℕ → Bool) → Outcome A)

@@ -26,6 +26,7 @@ use Rattle.text_assignment.specs.Meaning.{LineReadsAs}
 use Rattle.text_script.specs.Meaning.{ScriptReadsAs}
 use Rattle.text_script.specs.Script.{readSteps, readScript}
 use Rattle.terms.specs.Completions.{unknowns}
+use Rattle.terms.specs.Duality.{Dual}
 use Rattle.terms.specs.Lists.{keep, less, Rising}
 use Rattle.terms.specs.Order.{before}
 use Rattle.terms.specs.Prime.{primes, Implicant, Prime}
@@ -42,7 +43,7 @@ use Rattle.circuits.specs.Function.{function, nodeValue}
 use Rattle.queries.specs.Queries.{circuit, evaluation, modelCount, implicantTest, primeTest, reduction}
 use Rattle.partial.specs.Partial.{partialEvaluation}
 use Rattle.lists.specs.Capacity.{maxCapacity}
-use Rattle.listing.specs.Listing.{lent, Lent, nodePrimes, listTable, viewed}
+use Rattle.listing.specs.Listing.{lent, Lent, ListOut, nodePrimes, listTable, viewed}
 use Rattle.filtered.specs.Filtered.{filteredLent, filteredTable, FilteredLent, FilteredOut}
 use Rattle.walk.specs.Known.{actState}
 use Rattle.walk.specs.Walk.{walkTable, walkLent, WalkLent}
@@ -485,3 +486,18 @@ pub record WholeListing : Type 0 where
       → Listed m N n (λ i s. not (function w i s)) R (listTable false m N n w R b .answer) tt (listTable false m N n w R b .after)
   pub walked : (m : List ℕ) (N n : ℕ) (w : List ℕ) (R : ℕ) (b : Lent) → Asked m N n w R b
       → Listed m N n (function w) R (listTable true m N n w R b .answer) tt (listTable true m N n w R b .after)
+
+-- ---- clearances against blockers: two listings of one circuit that are both done, one of the nodes' functions with a shown list, one of
+-- their negations; each by its own weights, with its own capacity and its own buffers, whatever these held. It is said of all entries of a
+-- node, not of the shown ones
+pub record Duality : Type 0 where
+  -- of the circuit, which is its last node
+  pub circuits : (N n : ℕ) (w m m′ : List ℕ) (e : Exclusions) (R R′ : ℕ) (b : FilteredLent) (b′ : Lent) (c : ℕ)
+      → let o : FilteredOut = filteredTable m e N n w R b in let o′ : ListOut = listTable false m′ N n w R′ b′ in
+      o .answer ≡ answered c → o′ .answer ≡ answered tt
+      → Dual N (entriesAt R (o .after .nodes) (pred n)) (entriesAt R′ (o′ .after) (pred n))
+  -- and of every node
+  pub nodes : (N n : ℕ) (w m m′ : List ℕ) (e : Exclusions) (R R′ : ℕ) (b : FilteredLent) (b′ : Lent) (c : ℕ)
+      → let o : FilteredOut = filteredTable m e N n w R b in let o′ : ListOut = listTable false m′ N n w R′ b′ in
+      o .answer ≡ answered c → o′ .answer ≡ answered tt
+      → (i : ℕ) → i < n → Dual N (entriesAt R (o .after .nodes) i) (entriesAt R′ (o′ .after) i)

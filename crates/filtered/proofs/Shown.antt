@@ -13,13 +13,13 @@ use Rattle.exclusions.specs.Exclusions.{Exclusions}
 use Rattle.exclusions.specs.Partners.{respecting, Filtered}
 use Rattle.circuits.specs.Check.{check}
 use Rattle.circuits.specs.Function.{signedFunction}
-use Rattle.circuits.proofs.Accepted.{accepted-e}
+use Rattle.circuits.proofs.Accepted.{accepted-e, nodes-some, nodes-le}
 use Rattle.insertion.specs.Filled.{bySign, masksOf}
 use Rattle.insertion.proofs.Parts.{terms-masks, length-masks}
 use Rattle.listing.specs.Exact.{Attempted}
 use Rattle.listing.specs.Listing.{nodePrimes, exceeds, cleared, filled, Lent}
 use Rattle.listing.specs.declared.Shape.{Shape}
-use Rattle.listing.proofs.Bounds.{nodes-some, nodes-le, not-flip, Enough}
+use Rattle.listing.proofs.Bounds.{not-flip, Enough}
 use Rattle.listing.proofs.Last.{last-few, last-count, last-masks}
 use Rattle.filtered.specs.Exact.{lastTerms, LastHeld, FilteredExact}
 use Rattle.filtered.specs.Filtered.{shownPrimes, shownMasks}

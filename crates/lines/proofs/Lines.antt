@@ -1,7 +1,7 @@
 -- The reading of a text of lines is what `LinesReadAs` says, and nothing else is: for every well-formed format.
 use Prim.Native.Nat.{ℕ, suc, _+_, _≤_}
 use mathlib.Core.Path.{_≡_, refl, sym, ap, subst, _∙_}
-use mathlib.Core.Bool.{Bool, true, false, not}
+use mathlib.Core.Bool.{Bool, not}
 use mathlib.Core.Logic.{_⊎_, inl, inr, _≢_}
 use mathlib.Core.List.{List, [], _∷_, _++_}
 use native.Mathlib.Nat.{zero-add}
@@ -25,7 +25,7 @@ use Rattle.lines.specs.Reading.{readSome, readFrom, readAll, mapped, rea
 use Rattle.lines.proofs.Local.{lines-local}
 use Rattle.lines.proofs.Printed.{AnswerIs, reads}
 use Rattle.lines.proofs.Viable.{Said, lines-said}
-use Rattle.lines.proofs.WellFormed.{IsWord, Each, PieceOk, WellFormed, pick-has, word-bytes, decimal-word}
+use Rattle.lines.proofs.WellFormed.{IsWord, PieceOk, WellFormed, pick-has, word-bytes, decimal-word}
 
 -- ---- the moves of a text
 module _ {Q : Type 0} (F : Format Q) (W : WellFormed F) where

@@ -1,7 +1,7 @@
 -- A printed text is read as its first fault, or else as the state that its moves lead to.
 use Prim.Native.Nat.{ℕ, zero, suc, _+_, _<_, _≤_}
 use mathlib.Core.Path.{_≡_, refl, sym, ap, subst, _∙_}
-use mathlib.Core.Bool.{Bool, true, false, _&&_, cond, and-false}
+use mathlib.Core.Bool.{Bool, true, false, _&&_, and-false}
 use mathlib.Core.List.{List, [], _∷_, _++_}
 use native.Mathlib.Omega.{arith}
 use lib.Dec.{T, eqb, ltb, ltb→lt}
@@ -9,7 +9,6 @@ use lib.ListN.{length}
 use borrow.Author.Tests.{ne-eqb}
 use Rattle.masks.proofs.Tests.{and-l, and-r, is-true, along}
 use Rattle.table.specs.Outcome.{Outcome, answered, refused}
-use Rattle.text.specs.Faults.{unless}
 use Rattle.text.specs.Read.{byteAt, numberAt}
 use Rattle.text.specs.Syntax.{decimal}
 use Rattle.text.specs.declared.number.Numeral.the-variants.{Value}
@@ -18,7 +17,7 @@ use Rattle.lines.specs.Format.{first, pick, isPicked, starts, fitsWord, 
 use Rattle.lines.specs.Format.{lastPiece, last, faultsWord, faultsPiece, faults, Piece, Format, Picked, words, number, missing}
 use Rattle.lines.specs.Format.{picked}
 use Rattle.lines.specs.Reading.{wordThen, readPiece, readSome}
-use Rattle.lines.proofs.WellFormed.{IsWord, Each, NoDigit, PieceOk, WellFormed, pick-has, word-cons, decimal-word}
+use Rattle.lines.proofs.WellFormed.{IsWord, NoDigit, PieceOk, WellFormed, pick-has, word-cons, decimal-word}
 
 -- what is read: the first of the faults, or else the good answer
 abbrev pub AnswerIs : {A : Type 0} → List (ℕ × ℕ) → Outcome A → Outcome A → Type 0

@@ -1,10 +1,9 @@
 -- The bytes before a refusal begin a text of the format, and a text that is read is one.
-use Prim.Native.Nat.{ℕ, zero, suc, _+_, _<_, _≤_}
+use Prim.Native.Nat.{ℕ, zero, suc, _+_, _<_}
 use mathlib.Core.Path.{_≡_, refl, sym, ap, subst, _∙_}
 use mathlib.Core.Bool.{Bool, true, false, _&&_, cond}
-use mathlib.Core.Logic.{_⊎_, inl, inr, _≢_}
+use mathlib.Core.Logic.{_≢_}
 use mathlib.Core.List.{List, [], _∷_, _++_, append-nil, append-assoc}
-use native.Mathlib.Omega.{arith}
 use lib.Dec.{T, eqb, ltb, eqb→eq, lt→ltb}
 use lib.ListN.{length, take}
 use lib.Seq.{take-all}
@@ -19,11 +18,11 @@ use Rattle.text.specs.declared.head.Matched.the-variants.{Past, Differs}
 use Rattle.text.specs.declared.number.Numeral.{Numeral}
 use Rattle.text.specs.declared.number.Numeral.the-variants.{Value, Missing}
 use Rattle.text.proofs.Readers.{upTo, at-shape, at-other}
-use Rattle.text.proofs.Spans.{Span, one-byte, MatchSaid, match-said, NumberSaid, number-said, past-end}
-use Rattle.lines.specs.Format.{first, pick, isPicked, starts, fits, print, Choice, Piece, Format, Picked, words, number}
+use Rattle.text.proofs.Spans.{one-byte, MatchSaid, match-said, NumberSaid, number-said, past-end}
+use Rattle.lines.specs.Format.{pick, isPicked, starts, fits, print, Choice, Piece, Format, Picked, words, number}
 use Rattle.lines.specs.Format.{missing, picked}
 use Rattle.lines.specs.Reading.{matchThen, wordThen, numberThen, readPiece, endOr, readSome, readFrom, readAll}
-use Rattle.lines.proofs.WellFormed.{IsWord, Each, NoDigit, PieceOk, WellFormed, pick-has, word-cons, word-bytes}
+use Rattle.lines.proofs.WellFormed.{IsWord, Each, PieceOk, WellFormed, pick-has, word-cons, word-bytes}
 
 module _ {Q : Type 0} (F : Format Q) (W : WellFormed F) (start : Q) (s : List ℕ) where
   abbrev Fit : List ℕ → Type 0

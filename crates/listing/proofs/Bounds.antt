@@ -1,29 +1,14 @@
--- The range of an accepted table, and products that fit.
+-- Buffers that are large enough, and products that fit.
 use Prim.Native.Nat.{ℕ, _*_, _≤_}
 use mathlib.Core.Path.{_≡_, refl, sym, ap, ap₂, _∙_}
 use mathlib.Core.Bool.{Bool, true, false, _&&_, _||_, not}
-use mathlib.Core.List.{List}
 use lib.Dec.{T, ltb, leb, leb→le}
 use lib.ListN.{length}
 use borrow.Author.Tests.{ltb-true, ltb-false, le-leb, lt-leb}
 use Rattle.masks.proofs.Tests.{and-l, and-r, along}
-use Rattle.table.specs.Layout.{wordsFor}
-use Rattle.table.specs.Node.{maxNodes}
-use Rattle.circuits.proofs.Accepted.{Accepted}
 use Rattle.lists.specs.Capacity.{maxCapacity}
 use Rattle.listing.specs.Listing.{suffices, Lent}
 
-module _ {N n : ℕ} {w : List ℕ} (acc : Accepted N n w) where
-  pub nodes-some : 1 ≤ n
-  nodes-some = leb→le 1 n (let r = acc .range in search (and-l, and-r))
-
-  pub nodes-le : n ≤ maxNodes
-  nodes-le = leb→le n maxNodes (let r = acc .range in search (and-l, and-r))
-
-  pub words-enough : wordsFor n ≤ length w
-  words-enough = leb→le (wordsFor n) (length w) (let r = acc .range in search (and-l, and-r))
-
--- buffers that are large enough
 pub record Enough (n R : ℕ) (b : Lent) : Type 0 where
   pub small : R ≤ maxCapacity
   pub positives : n * R ≤ length (b .positives)

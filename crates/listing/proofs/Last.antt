@@ -1,5 +1,5 @@
 -- The part of the last node, which is the circuit, in a listing that is done.
-use Prim.Native.Nat.{ℕ, suc, pred, _+_, _*_, _<_, _≤_}
+use Prim.Native.Nat.{ℕ, suc, pred, _+_, _*_, _≤_}
 use mathlib.Core.Path.{_≡_, sym, ap, _∙_}
 use mathlib.Core.Bool.{Bool, true, false}
 use mathlib.Core.List.{List}
@@ -11,11 +11,10 @@ use Rattle.table.specs.Outcome.{accepted}
 use Rattle.terms.specs.declared.Term.{Term}
 use Rattle.circuits.specs.Check.{check}
 use Rattle.circuits.specs.Function.{signedFunction}
-use Rattle.circuits.proofs.Accepted.{accepted-e}
+use Rattle.circuits.proofs.Accepted.{accepted-e, last-below}
 use Rattle.circuits.proofs.Largest.{no-more}
 use Rattle.insertion.specs.Filled.{bySign, masksOf}
 use Rattle.listing.specs.Listing.{nodePrimes, exceeds, filled, Lent}
-use Rattle.listing.proofs.Bounds.{nodes-some}
 use Rattle.listing.proofs.Table.{Fit, masks-back, count-back}
 
 -- the last of n parts
@@ -34,18 +33,16 @@ module _ (c : Bool) (m : List ℕ) (N n : ℕ) (w : List ℕ) (R : ℕ) (acc : c
     unfolding exceeds
     last-few = ltb-false R (length rows) fits
 
-    all-fit : Fit m N F R n
+    -- no node has more than the last
+    pub all-fit : Fit m N F R n
     all-fit i l = le-trans (no-more (accepted-e N n w acc) c m i l) last-few
-
-    last : pred n < n
-    last = let h : 1 ≤ n = nodes-some (accepted-e N n w acc) in omega arith
 
     module _ (b : Lent) where
       pub last-count : getD (filled m N n F R b .after .counts) (pred n) 0 ≡ length rows
-      last-count = count-back m N F R n (pred n) (drop n (b .counts)) last
+      last-count = count-back m N F R n (pred n) (drop n (b .counts)) (last-below (accepted-e N n w acc))
 
       pub last-masks : (s : Bool)
           → take (length rows) (drop (pred n * R) (bySign (filled m N n F R b .after .positives) (filled m N n F R b .after .negatives) s))
           ≡ masksOf s rows
-      last-masks true = masks-back m N F R n (pred n) true (drop (n * R) (b .positives)) all-fit last
-      last-masks false = masks-back m N F R n (pred n) false (drop (n * R) (b .negatives)) all-fit last
+      last-masks true = masks-back m N F R n (pred n) true (drop (n * R) (b .positives)) all-fit (last-below (accepted-e N n w acc))
+      last-masks false = masks-back m N F R n (pred n) false (drop (n * R) (b .negatives)) all-fit (last-below (accepted-e N n w acc))

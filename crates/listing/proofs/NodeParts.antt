@@ -14,13 +14,12 @@ use Rattle.table.specs.declared.gates.Decoded.{Decoded}
 use Rattle.table.specs.declared.layout.Children.{Children}
 use Rattle.table.proofs.Encoding.{node-children, child-word}
 use Rattle.circuits.specs.Function.{signedFunction}
-use Rattle.circuits.proofs.Accepted.{Accepted}
+use Rattle.circuits.proofs.Accepted.{nodes-le, Accepted}
 use Rattle.lists.specs.Capacity.{maxCapacity}
 use Rattle.nodes.specs.Part.{nodeMade, NodeGiven, places, childFrom, childSize, childTerms, termsFrom, Laid, IsPart}
 use Rattle.nodes.specs.declared.NodePart.{NodePart}
 use Rattle.nodes.proofs.Exact.{given, made-exact}
 use Rattle.listing.specs.Listing.{nodePrimes}
-use Rattle.listing.proofs.Bounds.{nodes-le}
 use Rattle.listing.proofs.Table.{State, state-length, state-counts, count-le, terms-back}
 
 module _ {N n : ℕ} {w : List ℕ} (acc : Accepted N n w) (c : Bool) {R i : ℕ} {s : Bool → List ℕ} {cs : List ℕ}

@@ -1,10 +1,9 @@
 -- An accepted circuit: the implicant test, the model count and the literals struck.
-use Prim.Native.Nat.{ℕ, zero, suc, pred, _+_, _^_, _<_, _≤_}
+use Prim.Native.Nat.{ℕ, pred, _+_, _^_, _<_, _≤_}
 use mathlib.Core.Path.{_≡_, refl, sym, ap, ap₂, subst, _∙_}
 use mathlib.Core.Bool.{Bool, true, false, _&&_, not, cond}
 use mathlib.Core.List.{List}
-use native.Mathlib.Nat.{le-refl, le-antisymm}
-use native.Mathlib.Omega.{arith}
+use native.Mathlib.Nat.{le-antisymm}
 use native.Mathlib.Numerals.{add-one}
 use lib.Dec.{T, not-T}
 use Rattle.masks.specs.Mask.{bit}
@@ -14,16 +13,15 @@ use Rattle.masks.proofs.Operators.{bit-or}
 use Rattle.masks.proofs.Tests.{is-true, is-false, along}
 use Rattle.table.specs.Outcome.{accepted}
 use Rattle.terms.specs.Completions.{modelsUnder}
-use Rattle.terms.specs.Prime.{implicant, prime, reduce}
+use Rattle.terms.specs.Prime.{implicant, prime, assignmentTerm, reduce}
 use Rattle.terms.specs.Term.{empty, mentions, variables, isTerm, agrees, without, extend}
 use Rattle.terms.specs.declared.Term.{Term}
 use Rattle.terms.proofs.Terms.{empty-has, without-isTerm, isTerm-e, isTerm-i, agrees-i}
 use Rattle.circuits.specs.Check.{check}
-use Rattle.circuits.proofs.Accepted.{accepted-e, variables-le}
+use Rattle.circuits.proofs.Accepted.{accepted-e, variables-le, last-below, Accepted}
 use Rattle.passes.specs.Implied.{impliedAt}
 use Rattle.passes.proofs.ImplicantPass.{implied-is}
-use Rattle.passes.proofs.ModelPass.{accepted-readable}
-use Rattle.queries.specs.Queries.{circuit, assignmentTerm}
+use Rattle.queries.specs.Queries.{circuit}
 
 -- ---- an accepted circuit
 module _ (N n : ℕ) (w : List ℕ) (e : check N n w ≡ accepted) where
@@ -33,12 +31,8 @@ module _ (N n : ℕ) (w : List ℕ) (e : check N n w ≡ accepted) where
   -- the implicant pass, for the whole circuit
   pub implied-circuit : (t : Term) → T (isTerm N t) → impliedAt w t (pred n) ≡ implicant N (circuit n w) t
   implied-circuit t h =
-      let s = accepted-readable N n w e .1 in
-      implied-is (accepted-e N n w e) t (isTerm-e N t h) (pred n) (pred-lt n (s .first))
-    where
-      pred-lt : (n : ℕ) → 1 ≤ n → pred n < n
-      pred-lt zero l = absurd (omega arith)
-      pred-lt (suc n) l = le-refl (suc n)
+      let a : Accepted N n w = accepted-e N n w e in
+      implied-is a t (isTerm-e N t h) (pred n) (last-below a)
 
 -- the models under the empty term are all models
 pub models-empty : (N : ℕ) (f : ℕ → Bool) → modelsUnder N f empty ≡ count (2 ^ N) f

@@ -1,12 +1,10 @@
 -- The questions to a circuit: N variables, n nodes, the table w. Each is answered for an accepted table only, after 31 or 32.
-use Prim.Native.Nat.{ℕ, zero, suc, pred, _^_}
+use Prim.Native.Nat.{ℕ, pred, _^_}
 use mathlib.Core.Bool.{Bool, cond}
 use mathlib.Core.List.{List}
-use Rattle.masks.specs.Mask.{bit}
 use Rattle.masks.specs.Numbers.{count}
 use Rattle.table.specs.Outcome.{after, Outcome, answered, refused}
-use Rattle.terms.specs.Prime.{implicant, prime, reduce}
-use Rattle.terms.specs.Term.{empty, extend}
+use Rattle.terms.specs.Prime.{implicant, prime, assignmentTerm, reduce}
 use Rattle.terms.specs.declared.Term.{Term}
 use Rattle.circuits.specs.Check.{check}
 use Rattle.circuits.specs.Function.{function}
@@ -31,11 +29,6 @@ implicantTest N n w t = after (checkTerm N n w t) (answered (implicant N (circui
 -- whether the term is a prime implicant ("is a clearance")
 unfoldable pub primeTest : ℕ → ℕ → List ℕ → Term → Outcome Bool
 primeTest N n w t = after (checkTerm N n w t) (answered (prime N (circuit n w) t))
-
--- the term of the literals of the variables 0 to k - 1 as the assignment s has them ("all marks")
-unfoldable pub assignmentTerm : ℕ → ℕ → Term
-assignmentTerm s zero = empty
-assignmentTerm s (suc k) = extend (assignmentTerm s k) k (bit s k)
 
 -- the prime implicant left of a satisfying assignment ("strike down"); 33: it does not satisfy the circuit
 unfoldable pub reduction : ℕ → ℕ → List ℕ → ℕ → Outcome Term

@@ -5,10 +5,10 @@ ghost use Prim.Native.Nat.{_≤_, _<_};
 ghost use lib.Dec.{T};
 ghost use Rattle.masks.specs.Numbers.{implied, every};
 ghost use Rattle.table.specs.Outcome.{accepted};
-ghost use Rattle.terms.specs.Prime.{implicant, prime, reduce};
+ghost use Rattle.terms.specs.Prime.{implicant, prime, assignmentTerm, reduce};
 ghost use Rattle.terms.specs.Term.{mentions, isTerm, without};
 ghost use Rattle.circuits.specs.Check.{check};
-ghost use Rattle.queries.specs.Queries.{circuit, assignmentTerm};
+ghost use Rattle.queries.specs.Queries.{circuit};
 use terms::Term;
 
 // The term is still an implicant with its literal of x struck.

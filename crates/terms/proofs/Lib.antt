@@ -1,5 +1,7 @@
 pub mod Terms
 pub mod Implicants
+pub mod Struck
+pub mod Duality
 pub mod Conjunctions
 pub mod Decisions
 pub mod Sorted

@@ -3,4 +3,5 @@ pub mod Term
 pub mod Order
 pub mod Prime
 pub mod Completions
+pub mod Duality
 pub mod Joins

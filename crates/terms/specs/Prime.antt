@@ -3,10 +3,11 @@ use Prim.Native.Nat.{ℕ, zero, suc, _^_, _<_}
 use mathlib.Core.Bool.{Bool, _&&_, not, cond}
 use mathlib.Core.List.{List, [], _∷_, _++_, map, List·Memᴰ}
 use lib.Dec.{T}
+use Rattle.masks.specs.Mask.{bit}
 use Rattle.masks.specs.Numbers.{implied, every, below}
 use Rattle.terms.specs.Lists.{keep, sort}
 use Rattle.terms.specs.Order.{before}
-use Rattle.terms.specs.Term.{term, has, mentions, isTerm, agrees, without, Agrees, IsTerm}
+use Rattle.terms.specs.Term.{term, empty, has, mentions, isTerm, agrees, without, extend, Agrees, IsTerm}
 use Rattle.terms.specs.declared.Term.{Term}
 
 -- every assignment that agrees with the term makes f true ("the row implies f")
@@ -29,6 +30,11 @@ candidates N = pairs (below (2 ^ N)) (below (2 ^ N))
 -- all prime implicants of f over N variables, in order by the weights m
 unfoldable pub primes : List ℕ → ℕ → (ℕ → Bool) → List Term
 primes m N f = sort (before m) (keep (prime N f) (candidates N))
+
+-- the term of the literals of the variables 0 to k - 1 as the assignment s has them ("all marks")
+unfoldable pub assignmentTerm : ℕ → ℕ → Term
+assignmentTerm s zero = empty
+assignmentTerm s (suc k) = extend (assignmentTerm s k) k (bit s k)
 
 -- an implicant with the literals of 0 to k - 1 struck in turn, each if the rest is still an implicant ("strike down")
 unfoldable pub reduce : ℕ → (ℕ → Bool) → Term → ℕ → Term

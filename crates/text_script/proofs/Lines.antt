@@ -1,9 +1,9 @@
 -- The reading of a loading script is what `ScriptReadsAs` says, and nothing else is.
 use Prim.Native.Nat.{ℕ, zero, suc, _+_, _<_, _≤_}
 use mathlib.Core.Path.{_≡_, refl, sym, ap, subst, _∙_}
-use mathlib.Core.Bool.{Bool, true, false, _&&_, cond}
-use mathlib.Core.Logic.{_⊎_, inl, inr, _≢_}
-use mathlib.Core.List.{List, [], _∷_, _++_, append-nil, append-assoc, map}
+use mathlib.Core.Bool.{Bool, true, false, cond}
+use mathlib.Core.Logic.{inl, inr}
+use mathlib.Core.List.{List, [], _∷_, _++_, append-nil, append-assoc}
 use native.Mathlib.Omega.{arith}
 use native.Mathlib.Decide.{decLt}
 use lib.Dec.{T, ltb, ltb→lt, lt→ltb}
@@ -23,7 +23,7 @@ use Rattle.lines.proofs.WellFormed.{Some, Each, IsWord, PieceOk, WellFormed, pi
 use Rattle.text_script.specs.Meaning.{ScriptReadsAs}
 use Rattle.text_script.specs.Script.{with, lineChoices, openedChoices, signChoices, scriptPiece, scriptFormat, stepsIn}
 use Rattle.text_script.specs.Script.{roomFor, readSteps, State, line, opened, setting, setTo, sign, dropping, dropped}
-use Rattle.text_script.specs.Syntax.{variableOf, opening, closing, printLine, printScript, SmallNumbers, IsScript, scriptFaults}
+use Rattle.text_script.specs.Syntax.{variableOf, opening, printLine, printScript, SmallNumbers, IsScript, scriptFaults}
 use Rattle.text_script.specs.Syntax.{stepOf, stepsOf, Line, setLine, dropLine}
 
 module _ (N room : ℕ) where

@@ -23,7 +23,7 @@ use Rattle.text.specs.declared.head.Matched.{Matched}
 use Rattle.text.specs.declared.head.Matched.the-variants.{Past, Differs}
 use Rattle.text.specs.declared.number.Numeral.{Numeral}
 use Rattle.text.specs.declared.number.Numeral.the-variants.{Value, Missing}
-use Rattle.lines.specs.Format.{choice, first, pick, isPicked, starts, Choice, Picked, words, number, missing, picked}
+use Rattle.lines.specs.Format.{choice, first, pick, isPicked, starts, Choice, words, number, missing, picked}
 use Rattle.lines.specs.Reading.{matchThen, wordThen, numberThen, readPiece, endOr, readFrom, mapped}
 use Rattle.lines.proofs.Local.{word-read, read-step}
 use Rattle.text_script.specs.Answers.{scriptOutcome, Told}

@@ -2,27 +2,27 @@
 -- without a conflict is.
 use Prim.Native.Nat.{ℕ, suc, _^_, _<_, _≤_}
 use mathlib.Core.Path.{_≡_, refl, sym, _∙_}
-use mathlib.Core.Bool.{Bool, true, not}
+use mathlib.Core.Bool.{Bool, not}
 use mathlib.Core.List.{List, [], _∷_, List·Memᴰ, List·Memᴰ·head, List·Memᴰ·not-nil}
 use native.Mathlib.Omega.{arith}
-use lib.Dec.{T, T-not, not-T}
+use lib.Dec.{T, not-T}
 use lib.ListN.{length, getD, take}
 use Rattle.masks.specs.Mask.{width}
 use Rattle.masks.proofs.Tests.{and-i, and-l, along}
 use Rattle.steps.specs.declared.Step.{Step}
 use Rattle.terms.specs.Completions.{status}
 use Rattle.terms.specs.Lists.{keep}
-use Rattle.terms.specs.Prime.{primes, reduce, Implicant, Prime}
+use Rattle.terms.specs.Prime.{primes, assignmentTerm, reduce, Implicant, Prime}
 use Rattle.terms.specs.Term.{agrees, join, conflict, Agrees, IsTerm}
 use Rattle.terms.specs.declared.Term.{Term}
 use Rattle.terms.proofs.Built.{conflict-free}
 use Rattle.terms.proofs.Completions.{falsified-e, falsified-i}
+use Rattle.terms.proofs.Duality.{signs-differ}
 use Rattle.terms.proofs.Listed.{primes-lists}
 use Rattle.terms.proofs.Sorted.{keep-in, keep-out}
-use Rattle.terms.proofs.Terms.{join-l, join-r, agrees-inside, join-isTerm, agrees-i, own-agrees}
+use Rattle.terms.proofs.Struck.{reduction-prime}
+use Rattle.terms.proofs.Terms.{agrees-i}
 use Rattle.states.proofs.Joined.{join-means}
-use Rattle.queries.specs.Queries.{assignmentTerm}
-use Rattle.queries.proofs.Struck.{reduction-prime}
 use Rattle.walk.specs.Known.{known}
 use Rattle.walk.specs.Walk.{compatible, afterEach}
 use Rattle.walk.proofs.Entries.{after-at}
@@ -43,14 +43,9 @@ module _ (N : ℕ) (wide : N ≤ width) (f : ℕ → Bool) where
     abbrev free : Term → Bool
     free u = not (conflict u t)
 
-    -- where no completion makes f true: it would be true at the join with a prime implicant
+    -- where no completion makes f true, a prime implicant's signs differ from it somewhere
     every-conflicts : Implicant N (λ s. not (f s)) t → (u : Term) → Prime N f u → T (free u) → ⊥
-    every-conflicts k u p n =
-        let j : IsTerm N (join u t) = join-isTerm N u t (p .isTerm) h (conflict-free N wide u t (p .isTerm) n) in
-        let s : ℕ = join u t .positive in
-        let l : s < 2 ^ N = j .fits true in
-        let a : Agrees (join u t) s = own-agrees N (join u t) j in
-        T-not (f s) (k s l (agrees-inside t (join u t) s (join-r u t) a)) (p .holds s l (agrees-inside u (join u t) s (join-l u t) a))
+    every-conflicts k u p n = signs-differ N f u t (p .isTerm) h (p .holds) k (conflict-free N wide u t (p .isTerm) n)
 
     -- where a completion does: a prime implicant agrees with it
     module _ (s : ℕ) (l : s < 2 ^ N) (a : Agrees t s) (m : T (f s)) where

@@ -9,10 +9,10 @@ use borrow.Author.Needs.{needs}
 use Rattle.weighing.specs.Weights.{fitting}
 use Rattle.exclusions.specs.Exclusions.{exclusions, proper, Exclusions}
 use Rattle.circuits.specs.Function.{signedFunction}
-use Rattle.circuits.proofs.Accepted.{accepted-e}
+use Rattle.circuits.proofs.Accepted.{accepted-e, nodes-le}
 use Rattle.insertion.specs.Filled.{bySign}
 use Rattle.listing.specs.Listing.{lent, suffices, Lent}
-use Rattle.listing.proofs.Bounds.{nodes-le, not-flip, two-fit, two-fit-e}
+use Rattle.listing.proofs.Bounds.{not-flip, two-fit, two-fit-e}
 use Rattle.filtered.specs.Filtered.{filteredLent, sufficesShown, sufficesAll, FilteredLent}
 use Rattle.filtered.proofs.Answers.{gives-short, gives-unweighed, gives-improper, gives-exact}
 use Rattle.filtered.proofs.list_accepted.Statement.{statement}

@@ -13,7 +13,7 @@ use Rattle.table.specs.Layout.{wordsFor}
 use Rattle.table.specs.Node.{maxNodes}
 use Rattle.terms.specs.declared.Term.{Term}
 use Rattle.circuits.specs.Function.{signedFunction}
-use Rattle.circuits.proofs.Accepted.{accepted-e, Accepted}
+use Rattle.circuits.proofs.Accepted.{accepted-e, nodes-some, nodes-le, words-enough, Accepted}
 use Rattle.circuits.proofs.Largest.{no-more}
 use Rattle.insertion.specs.Filled.{bySign}
 use Rattle.insertion.specs.declared.Kept.{Kept}
@@ -21,7 +21,6 @@ use Rattle.insertion.specs.declared.Kept.the-variants.{Count, Full}
 use Rattle.insertion.proofs.Parts.{kept-count, kept-full}
 use Rattle.nodes.specs.Part.{PartFilled, HasPlace}
 use Rattle.listing.specs.Listing.{nodePrimes}
-use Rattle.listing.proofs.Bounds.{nodes-some, nodes-le, words-enough}
 use Rattle.listing.proofs.NodeParts.{part-lies, part-given, part-made}
 use Rattle.listing.proofs.Table.{state-start, state-length, state-counts, state-more}
 use Rattle.listing.proofs.Table.{tried-full, tried-all, State}

@@ -5,10 +5,10 @@ use mathlib.Core.Bool.{Bool, true, false, not}
 use borrow.Author.Needs.{needs}
 use Rattle.table.specs.Node.{maxNodes}
 use Rattle.weighing.specs.Weights.{fitting}
-use Rattle.circuits.proofs.Accepted.{accepted-e, Accepted}
+use Rattle.circuits.proofs.Accepted.{accepted-e, nodes-le, Accepted}
 use Rattle.listing.specs.Listing.{lent, suffices, Lent}
 use Rattle.listing.proofs.Answers.{lists-short, lists-unweighed, lists-all, lists-lack}
-use Rattle.listing.proofs.Bounds.{nodes-le, not-flip}
+use Rattle.listing.proofs.Bounds.{not-flip}
 use Rattle.listing.proofs.list_accepted.Statement.{statement}
 use Rattle.listing.proofs.list_accepted.Tie as tie
 

@@ -6,10 +6,9 @@ use mathlib.Core.List.{List}
 use lib.ListN.{length}
 use borrow.Author.Needs.{needs}
 use Rattle.circuits.specs.Function.{signedFunction}
-use Rattle.circuits.proofs.Accepted.{accepted-e, variables-le, Accepted}
+use Rattle.circuits.proofs.Accepted.{accepted-e, variables-le, nodes-le, Accepted}
 use Rattle.insertion.specs.Filled.{bySign}
 use Rattle.listing.proofs.Answers.{exact-all, exact-none, zeros-of}
-use Rattle.listing.proofs.Bounds.{nodes-le}
 use Rattle.listing.proofs.list_exact.Statement.{statement}
 use Rattle.listing.proofs.list_exact.Tie as tie
 

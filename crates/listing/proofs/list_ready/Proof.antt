@@ -8,12 +8,12 @@ use Rattle.masks.proofs.Numbers.{product-le}
 use Rattle.masks.proofs.Tests.{along}
 use Rattle.table.specs.Node.{maxNodes}
 use Rattle.circuits.specs.Function.{signedFunction}
-use Rattle.circuits.proofs.Accepted.{accepted-e}
+use Rattle.circuits.proofs.Accepted.{accepted-e, nodes-le}
 use Rattle.lists.specs.Capacity.{maxCapacity}
 use Rattle.insertion.specs.Filled.{bySign}
 use Rattle.listing.specs.Listing.{lent, Lent}
 use Rattle.listing.proofs.Answers.{attempted}
-use Rattle.listing.proofs.Bounds.{nodes-le, enough, Enough}
+use Rattle.listing.proofs.Bounds.{enough, Enough}
 use Rattle.listing.proofs.list_ready.Statement.{statement}
 use Rattle.listing.proofs.list_ready.Tie as tie
 

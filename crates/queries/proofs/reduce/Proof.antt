@@ -6,15 +6,15 @@ use Rattle.masks.proofs.Tests.{was-false, was-true}
 use Rattle.table.specs.Outcome.{accepted, answered, refused}
 use Rattle.table.specs.declared.Checked.{Checked}
 use Rattle.table.proofs.Outcomes.{refusal-stands, goes-on, test-passed, test-failed}
-use Rattle.terms.specs.Prime.{reduce}
+use Rattle.terms.specs.Prime.{assignmentTerm, reduce}
 use Rattle.terms.specs.Term.{isTerm}
 use Rattle.terms.specs.declared.Term.{Term}
+use Rattle.terms.proofs.Struck.{assignment-isTerm}
 use Rattle.passes.proofs.ModelPass.{accepted-readable}
 use Rattle.checks.specs.Arguments.{checkAssignment}
 use Rattle.checks.proofs.Arguments.{assignment-e}
-use Rattle.queries.specs.Queries.{circuit, assignmentTerm, reduction}
+use Rattle.queries.specs.Queries.{circuit, reduction}
 use Rattle.queries.proofs.Accepted.{accepted-narrow}
-use Rattle.queries.proofs.Struck.{assignment-isTerm}
 use Rattle.queries.proofs.reduce.Statement.{statement}
 use Rattle.queries.proofs.reduce.Tie as tie
 

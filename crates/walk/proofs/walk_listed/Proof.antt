@@ -10,11 +10,10 @@ use borrow.Author.Needs.{needs}
 use Rattle.masks.proofs.Numbers.{product-le}
 use Rattle.table.specs.Node.{maxNodes}
 use Rattle.terms.specs.declared.Term.{Term}
-use Rattle.circuits.proofs.Accepted.{accepted-e, Accepted}
+use Rattle.circuits.proofs.Accepted.{accepted-e, nodes-some, nodes-le, Accepted}
 use Rattle.lists.specs.Capacity.{maxCapacity}
 use Rattle.insertion.specs.Filled.{masksOf}
 use Rattle.insertion.proofs.Parts.{length-masks}
-use Rattle.listing.proofs.Bounds.{nodes-some, nodes-le}
 use Rattle.listing.proofs.Last.{last-part}
 use Rattle.walk.specs.Ready.{planPrimes}
 use Rattle.walk.proofs.walk_listed.Statement.{statement}

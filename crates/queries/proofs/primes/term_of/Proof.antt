@@ -4,7 +4,7 @@ use mathlib.Core.Path.{_≡_, ap, _∙_}
 use native.Mathlib.Nat.{le-antisymm}
 use native.Mathlib.Omega.{arith}
 use borrow.Author.Needs.{needs}
-use Rattle.queries.specs.Queries.{assignmentTerm}
+use Rattle.terms.specs.Prime.{assignmentTerm}
 use Rattle.queries.proofs.Accepted.{term-start, term-next}
 use Rattle.queries.proofs.primes.term_of.Statement.{statement}
 use Rattle.queries.proofs.primes.term_of.Tie as tie

@@ -1,5 +1,5 @@
 -- `text_script::line::ending` meets its contract.
-use mathlib.Core.Path.{_≡_, sym, ap, subst, _∙_}
+use mathlib.Core.Path.{sym, ap, subst, _∙_}
 use Rattle.text.specs.Places.{MatchedRuns}
 use Rattle.text_script.specs.Lines.{endedBy}
 use borrow.Author.Needs.{needs}

@@ -1,6 +1,5 @@
 -- `text_script::line::line_at` meets its contract.
-use mathlib.Core.Path.{_≡_, sym, subst, _∙_}
-use native.Mathlib.Omega.{arith}
+use mathlib.Core.Path.{sym, subst, _∙_}
 use Rattle.text.specs.Places.{MatchedRuns}
 use Rattle.text_script.proofs.Reading.{set-differs, set-past, drop-differs, drop-past, other-reads}
 use borrow.Author.Needs.{needs}

@@ -1,5 +1,5 @@
 -- `text_script::line::unfit` meets its contract.
-use mathlib.Core.Path.{_≡_, sym, ap}
+use mathlib.Core.Path.{sym, ap}
 use borrow.Author.Needs.{needs}
 use Rattle.text.specs.declared.answer.Fault.{Fault}
 use Rattle.text_script.specs.Lines.{unfitAs}

@@ -2,7 +2,7 @@
 -- read is read as the whole is.
 use Prim.Native.Nat.{ℕ, _+_, _-_, _<_, _≤_}
 use mathlib.Core.Path.{_≡_, refl, sym, ap, subst, _∙_}
-use mathlib.Core.List.{List, [], _∷_, _++_}
+use mathlib.Core.List.{List, [], _∷_}
 use native.Mathlib.Omega.{arith}
 use lib.ListN.{length, length-append}
 use borrow.Author.Needs.{needs}
@@ -10,14 +10,13 @@ use Rattle.steps.specs.Steps.{columns, put}
 use Rattle.steps.specs.declared.Columns.{Columns}
 use Rattle.steps.specs.declared.Step.{Step}
 use Rattle.steps.proofs.ColumnLaws.{columns-none, columns-with}
-use Rattle.table.specs.Outcome.{Outcome, answered, refused}
+use Rattle.table.specs.Outcome.{answered}
 use Rattle.text.specs.Read.{byteAt}
 use Rattle.text.proofs.Laws.{inside}
 use Rattle.text_script.specs.Answers.{scriptOutcome}
 use Rattle.text_script.specs.Lines.{lineThen, LineRuns}
 use Rattle.text_script.specs.Script.{with, line}
 use Rattle.text_script.specs.declared.line.LineReading.{LineReading}
-use Rattle.text_script.specs.declared.script.ScriptReading.{ScriptReading}
 use Rattle.text_script.proofs.Reading.{on, end-is, full-is, closed-is, open-is, told-steps, told-refused}
 use Rattle.text_script.proofs.script.read_lines.Statement.{statement}
 use Rattle.text_script.proofs.script.read_lines.Tie as tie

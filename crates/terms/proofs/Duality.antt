@@ -23,6 +23,13 @@ not-itself false e = true≢false (sym e)
 pub opposite-apart : (t u : Term) (x s : ℕ) → Opposite t u x → Agrees t s → Agrees u s → ⊥
 opposite-apart t u x s (b, p, q) a c = not-itself b (sym (a x b p) ∙ c x (not b) q)
 
+-- an assignment that makes f true agrees with what striking down leaves of it
+agreeing : (N : ℕ) (f : ℕ → Bool) (l : List Term) → Lists N f l → (s : ℕ) → s < 2 ^ N → T (f s) → AgreesWithOne l s
+agreeing N f l p s k v =
+    let (c, a) = reduction-prime N f s k v in
+    let t : Term = reduce N f (assignmentTerm s N) N in
+    (t, p .every t c, a)
+
 module _ (N : ℕ) (f : ℕ → Bool) where
   abbrev negated : ℕ → Bool
   negated s = not (f s)
@@ -48,6 +55,7 @@ module _ (N : ℕ) (f : ℕ → Bool) where
     abbrev oppositeAt : ℕ → Bool
     oppositeAt x = differs true x || differs false x
 
+    -- the test says so; where it finds none of the N variables, no signs differ
     found : (x : ℕ) → T (oppositeAt x) → Opposite t u x
     found x d = ⊎-elim (literals true) (literals false) (or-cases (differs true x) (differs false x) d)
       where
@@ -83,18 +91,11 @@ module _ (N : ℕ) (f : ℕ → Bool) where
         let d : Prime N negated u = q .only u j in
         implicants-opposite t u (c .isTerm) (d .isTerm) (c .holds) (d .holds)
 
-    -- what is left of an assignment that makes g true
-    agreeing : (g : ℕ → Bool) (l : List Term) → Lists N g l → (s : ℕ) → s < 2 ^ N → T (g s) → AgreesWithOne l s
-    agreeing g l r s k v =
-        let (c, a) = reduction-prime N g s k v in
-        let t : Term = reduce N g (assignmentTerm s N) N in
-        (t, r .every t c, a)
-
     covered : (s : ℕ) → s < 2 ^ N → AgreesWithOne ts s ⊎ AgreesWithOne us s
     covered s l =
         ⊎-elim {C = AgreesWithOne ts s ⊎ AgreesWithOne us s}
-        (λ (v : T (f s)). inl (agreeing f ts p s l v))
-        (λ (v : T (not (f s))). inr (agreeing negated us q s l v))
+        (λ (v : T (f s)). inl (agreeing N f ts p s l v))
+        (λ (v : T (not (f s))). inr (agreeing N negated us q s l v))
         (decide (f s))
 
     apart : (s : ℕ) → AgreesWithOne ts s → AgreesWithOne us s → ⊥

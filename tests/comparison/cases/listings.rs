@@ -55,7 +55,7 @@ pub fn with_middles(lists: &Buffers, middles: &Buffers) -> Buffers {
 }
 
 /// Five lists with margins, full of noise.
-fn shown_noise(seed: u64, lengths: [usize; 3], shown: [usize; 2]) -> Shown {
+pub fn shown_noise(seed: u64, lengths: [usize; 3], shown: [usize; 2]) -> Shown {
     let Buffers { positives, negatives, .. } = noise(!seed, [shown[0], shown[1], 0]);
     Shown { listing: noise(seed, lengths), positives, negatives }
 }

@@ -1,25 +1,42 @@
 //! Conjunctions of many children beside chains of conjunctions of two for the same functions.
 
 use super::listed::Listings;
+use crate::cases::listings::noise;
 use crate::circuits;
 use crate::engine;
 use crate::oracle::function::Listed;
 use crate::oracle::listing::Buffers;
 use crate::oracle::table::{Node, Table};
+use crate::oracle::Refused;
 use crate::random::Random;
 use crate::tally::Tally;
 use crate::weights;
 
-/// The rows of every node as the engine lists them: the masks of the variables marked yes and of those marked no.
-pub fn rows(listed: Listed, table: &Table, weights: &[u32], capacity: u32) -> Vec<Vec<(u64, u64)>> {
-    let (nodes, capacity) = (table.nodes as usize, capacity as usize);
-    let [rows, counts] = [nodes * capacity, nodes].map(|length| length + 2 * engine::MARGIN);
-    let mut lists = Buffers { positives: vec![7; rows], negatives: vec![7; rows], counts: vec![7; counts] };
-    engine::list(listed, table, weights, capacity as u32, &mut lists).expect("room enough");
-    let Buffers { positives, negatives, counts } = &mut lists;
-    let pairs: Vec<(u64, u64)> = engine::middle(positives).iter().copied().zip(engine::middle(negatives).iter().copied()).collect();
-    let counts = engine::middle(counts);
-    (0..nodes).map(|node| pairs[node * capacity..][..counts[node] as usize].to_vec()).collect()
+/// A row: the masks of the variables marked yes and of those marked no.
+pub type Row = (u64, u64);
+
+/// The rows of every node as the engine lists them.
+pub fn rows(listed: Listed, table: &Table, weights: &[u32], capacity: u32) -> Vec<Vec<Row>> {
+    rows_or_refusal(listed, table, weights, capacity).expect("room enough")
+}
+
+/// The same, or the refusal.
+pub fn rows_or_refusal(listed: Listed, table: &Table, weights: &[u32], capacity: u32) -> Result<Vec<Vec<Row>>, Refused> {
+    let [rows, nodes] = [table.nodes * capacity, table.nodes].map(|length| length as usize);
+    let mut lists = noise(u64::from(capacity), [rows, rows, nodes]);
+    engine::list(listed, table, weights, capacity, &mut lists)?;
+    Ok(by_node(lists, capacity))
+}
+
+/// The rows of every node that a listing left in lists with margins, just enough.
+pub fn by_node(mut lists: Buffers, capacity: u32) -> Vec<Vec<Row>> {
+    let [positives, negatives] = [&mut lists.positives, &mut lists.negatives].map(|list| engine::middle(list));
+    let capacity = capacity as usize;
+    let rows = |(node, &count): (usize, &u32)| {
+        let part = |masks: &[u64]| masks[node * capacity..][..capacity][..count as usize].to_vec();
+        part(positives).into_iter().zip(part(negatives)).collect()
+    };
+    engine::middle(&mut lists.counts).iter().enumerate().map(rows).collect()
 }
 
 /// Whether some conjunction has more than two children.

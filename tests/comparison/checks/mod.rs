@@ -2,6 +2,7 @@
 
 mod chains;
 mod damaged;
+mod duality;
 mod limits;
 mod lines;
 mod listed;

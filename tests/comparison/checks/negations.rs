@@ -23,7 +23,7 @@ fn left(listed: Listed, table: &Table, weights: &[u32], capacity: u32) -> (Resul
 }
 
 /// A decision diagram, often over many variables, whose negation is accepted too: no `pick` has two `true` children.
-fn diagram(random: &Random) -> (u32, Vec<Node>) {
+pub fn diagram(random: &Random) -> (u32, Vec<Node>) {
     let variables = random.choose(&[40, random.between(12, 40)]) as u32;
     let nodes = match random.below(3) {
         0 => circuits::layered(random, variables, random.between(1, 4)),

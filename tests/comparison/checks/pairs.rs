@@ -1,11 +1,11 @@
 //! Pairs leave rows out of the shown list and change nothing else. Every function of few variables, every two of many, long lists, and
 //! wrong pairs among all other faults.
 
-use super::chains::rows;
+use super::chains::{rows, Row};
 use super::listed::Listings;
 use super::weights::circuit_of;
 use super::wide::grouped;
-use crate::cases::listings::Listing;
+use crate::cases::listings::{shown_noise, Listing};
 use crate::circuits;
 use crate::compare::compare;
 use crate::engine;
@@ -20,15 +20,10 @@ use crate::random::Random;
 use crate::tally::Tally;
 use crate::weights;
 
-/// A row: the masks of the variables marked yes and of those marked no.
-type Row = (u64, u64);
-
 /// What the engine leaves in buffers just enough that held something: rows and counts, and the shown list.
-fn shown(table: &Table, weights: &[u32], pairs: &Pairs, capacity: u32) -> (Buffers, Vec<Row>) {
-    let [rows, counts, room] =
-        [(table.nodes * capacity) as usize, table.nodes as usize, capacity as usize].map(|length| length + 2 * engine::MARGIN);
-    let listing = Buffers { positives: vec![7; rows], negatives: vec![7; rows], counts: vec![7; counts] };
-    let mut lists = Shown { listing, positives: vec![7; room], negatives: vec![7; room] };
+pub fn shown(table: &Table, weights: &[u32], pairs: &Pairs, capacity: u32) -> (Buffers, Vec<Row>) {
+    let [rows, nodes, room] = [table.nodes * capacity, table.nodes, capacity].map(|length| length as usize);
+    let mut lists = shown_noise(u64::from(capacity), [rows, rows, nodes], [room, room]);
     let number = engine::list_shown(table, weights, pairs, capacity, &mut lists).expect("right pairs and room enough") as usize;
     let Shown { listing, mut positives, mut negatives } = lists;
     let masks = engine::middle(&mut positives).iter().copied().zip(engine::middle(&mut negatives).iter().copied());

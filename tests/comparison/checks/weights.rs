@@ -1,6 +1,6 @@
 //! Weights change the order of rows and nothing else: all of them 0 is the order without them. Wrong ones among all other faults.
 
-use super::chains::rows;
+use super::chains::{rows, Row};
 use super::listed::Listings;
 use super::wide::grouped;
 use crate::cases::listings::Listing;
@@ -12,9 +12,6 @@ use crate::oracle::table::{reachable, Node, Table};
 use crate::random::Random;
 use crate::tally::Tally;
 use crate::weights;
-
-/// A row: the masks of the variables marked yes and of those marked no.
-type Row = (u64, u64);
 
 /// Where a row stands without weights.
 fn place(&(positive, negative): &Row) -> (u32, u64, u64) {

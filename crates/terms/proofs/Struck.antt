@@ -12,8 +12,8 @@ use Rattle.masks.proofs.Tests.{along, below-suc}
 use Rattle.terms.specs.Prime.{assignmentTerm, reduce, Prime}
 use Rattle.terms.specs.Term.{has, isTerm, extend, Agrees, IsTerm}
 use Rattle.terms.proofs.Implicants.{reduce-prime}
-use Rattle.terms.proofs.Terms.{Unmentioned, extend-here, extend-there, empty-has, agrees-inside, has-below, empty-isTerm, extend-isTerm}
-use Rattle.terms.proofs.Terms.{isTerm-i}
+use Rattle.terms.proofs.Terms.{Unmentioned, extend-here, extend-there, empty-has, agrees-inside}
+use Rattle.terms.proofs.Terms.{has-below, empty-isTerm, extend-isTerm, isTerm-i}
 
 term-unmentioned : (s k x : ℕ) → k ≤ x → Unmentioned (assignmentTerm s k) x
 unfolding assignmentTerm

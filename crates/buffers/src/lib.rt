@@ -1,4 +1,6 @@
 // Buffers with zeros in every entry, and copies.
+#![tactic(auto)]
+
 ghost use Rattle.std.specs.Prelude.{◌≡◌, ◌+◌, ◌≤◌, length, take, drop, replicate};
 
 // Every mask becomes 0.

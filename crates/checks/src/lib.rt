@@ -1,4 +1,6 @@
 // The check of a table, 21 to 25, and what the questions share: the check, and then 31 or 32.
+#![tactic(auto)]
+
 ghost use Rattle.std.specs.Prelude.{◌≡◌};
 ghost use Rattle.table.specs.Outcome.{checked};
 ghost use Rattle.table.specs.Words.{first_fault, Readable};

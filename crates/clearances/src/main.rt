@@ -1,5 +1,7 @@
 // Prints the prime implicants ("clearances") of the circuit whose text stands on standard input. A read or a write that fails is told
 // on standard error. Every function that prints answers whether all of it went.
+#![tactic(auto)]
+
 ghost use Rattle.std.specs.Prelude.{◌≡◌, length, take};
 ghost use Rattle.text.specs.Answers.{reading_of};
 ghost use Rattle.clearances.specs.Reading.{program_answer};

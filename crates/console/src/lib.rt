@@ -1,4 +1,6 @@
 // Standard input, output and error for the programs.
+#![tactic(auto)]
+
 pub mod input;
 
 use libc::{STDERR_FILENO, STDOUT_FILENO};

@@ -1,5 +1,7 @@
 // Pairs of variables that exclude each other: their test, and the terms of a list that respect them. The pairs are folded into one mask a
 // variable, so that the test of a term does not depend on how many pairs there are.
+#![tactic(auto)]
+
 ghost use Rattle.std.specs.Prelude.{◌≡◌, true, not, ◌^◌, ◌<◌, ◌≤◌, length, replicate};
 ghost use Rattle.terms.specs.Term.{terms_of};
 ghost use Rattle.insertion.specs.Filled.{by_sign};

@@ -1,5 +1,7 @@
 // The prime implicants of every node of a circuit, listed in lent buffers, and in two more those of the last node that respect pairs of
 // variables that exclude each other ("the shown list").
+#![tactic(auto)]
+
 ghost use Rattle.std.specs.Prelude.{◌≡◌, true, ◌≤◌, length, replicate};
 ghost use Rattle.table.specs.Node.{max_variables};
 ghost use Rattle.table.specs.Outcome.{accepted};

@@ -1,6 +1,8 @@
 // Hints: for each term of a list, the place of a kept term that may be inside its join with another term. A hint is only tried, so that
 // nothing is promised of one but by `covers`, which tries it. Terms are also looked at 64 at a time, as the bits of words: `left` has the
 // bits of those that still want a hint.
+#![tactic(auto)]
+
 ghost use Rattle.std.specs.Prelude.{◌≡◌, true, ◌+◌, ◌*◌, ◌≤◌, ◌<◌, length};
 ghost use Rattle.masks.specs.Mask.{width};
 ghost use Rattle.terms.specs.Term.{inside};

@@ -1,4 +1,6 @@
 // Prints the nine cases, and joins of terms: by the nine cases, and of whole masks.
+#![tactic(auto)]
+
 use console::print;
 use states::{State, StateJoin, TermJoin};
 use terms::Term;

@@ -1,4 +1,6 @@
 // The prime implicants of every node of a circuit, listed in lent buffers; and the part of a buffer that holds one node's.
+#![tactic(auto)]
+
 ghost use Rattle.std.specs.Prelude.{◌≡◌, true, false, ◌*◌, ◌≤◌, length, replicate};
 ghost use Rattle.table.specs.Node.{max_nodes};
 ghost use Rattle.table.specs.Outcome.{accepted};

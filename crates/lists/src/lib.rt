@@ -1,4 +1,6 @@
 // Lists of terms: the positive masks in one slice, the negative masks in another of the same length.
+#![tactic(auto)]
+
 ghost use Rattle.std.specs.Prelude.{◌≡◌, ◌<◌, length};
 ghost use Rattle.lists.specs.Scans.{term_at, short, narrowed, Found};
 

@@ -1,4 +1,6 @@
 // Masks: sets of variables as the bits of a u64.
+#![tactic(auto)]
+
 ghost use Rattle.std.specs.Prelude.{◌≡◌, true, false, ◌<◌};
 ghost use Rattle.masks.specs.Mask.{bit, put, within, size, subset, disjoint};
 ghost use Rattle.masks.specs.Numbers.{Lowest};

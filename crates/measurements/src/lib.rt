@@ -1,4 +1,6 @@
 // Measurements: what a quantity known within limits says of a variable, and the term with what a list of them says.
+#![tactic(auto)]
+
 ghost use Rattle.std.specs.Prelude.{◌≡◌, ◌||◌, min, max, ◌<◌, leb};
 ghost use Rattle.std.specs.Int.Signed.{lt_z};
 ghost use Rattle.masks.specs.Mask.{bit};

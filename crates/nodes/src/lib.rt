@@ -1,4 +1,6 @@
 // One node: its terms made in its own part of the buffers, from the terms of its children in theirs.
+#![tactic(auto)]
+
 ghost use Rattle.std.specs.Prelude.{◌≡◌, cond, [], ◌∷◌, ◌+◌, ◌*◌, ◌≤◌, ◌<◌, length, take, drop, get_or};
 ghost use Rattle.masks.specs.Mask.{width};
 ghost use Rattle.table.specs.Layout.{words_for, max_children};

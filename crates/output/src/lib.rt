@@ -1,4 +1,6 @@
 // The text of one output line. A byte past the sink's end is dropped; the answer is the line's length.
+#![tactic(auto)]
+
 ghost use Rattle.std.specs.Prelude.{◌+◌, ◌≤◌, ◌<◌};
 ghost use Rattle.text_writer.specs.Sink.{Wrote};
 ghost use Rattle.output.specs.Lines.{whole_decimal, count_line, mark_text, literals_text, term_line, refusal_line, number_line};

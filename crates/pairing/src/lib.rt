@@ -1,2 +1,4 @@
 // All pairs of terms of two sides.
+#![tactic(auto)]
+
 pub mod pairs;

@@ -1,4 +1,6 @@
 // The question of a partial assignment to a circuit: a term says what is known, and measurements add to it.
+#![tactic(auto)]
+
 ghost use Rattle.std.specs.Prelude.{◌≡◌, ◌-◌, ◌^◌, ◌≤◌, T, eqb};
 ghost use Rattle.table.specs.Outcome.{accepted};
 ghost use Rattle.terms.specs.Completions.{status_by};

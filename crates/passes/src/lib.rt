@@ -1,4 +1,6 @@
 // Passes over a table: what is computed of each node from its children's, in one loop, the lowest node first.
+#![tactic(auto)]
+
 ghost use Rattle.std.specs.Prelude.{◌≡◌, true, false, ◌&&◌, cond, pred, ◌+◌, ◌-◌, ◌/◌, ◌^◌, ◌≤◌, ◌<◌, T};
 ghost use Rattle.table.specs.Outcome.{accepted};
 ghost use Rattle.table.specs.Words.{Readable};

@@ -1,4 +1,6 @@
 // What the program `clearances` reads and lists, under limits of its own.
+#![tactic(auto)]
+
 ghost use Rattle.std.specs.Prelude.{◌≡◌, true, take};
 ghost use Rattle.text.specs.Answers.{reading_of};
 ghost use Rattle.listing.specs.Listing.{lent, suffices};

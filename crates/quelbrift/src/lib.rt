@@ -1,5 +1,7 @@
 // What C and Rust call: each function is thin over one operation. A name is the whole program's, so each begins with the crate's.
 // include/quelbrift.h says what each takes, answers and leaves in each buffer.
+#![tactic(auto)]
+
 ghost use Rattle.std.specs.Prelude.{◌≡◌, false, length};
 ghost use Rattle.table.specs.Outcome.{answered};
 ghost use Rattle.text.specs.Read.{read_text};

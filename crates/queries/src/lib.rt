@@ -1,4 +1,6 @@
 // Questions to a circuit: evaluation, model count, tests of a term, and reduction.
+#![tactic(auto)]
+
 ghost use Rattle.std.specs.Prelude.{◌≡◌};
 ghost use Rattle.queries.specs.Answers.{evaluated, counted, tested, reduced};
 ghost use Rattle.queries.specs.Queries.{evaluation, model_count, implicant_test, prime_test, reduction};

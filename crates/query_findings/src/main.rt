@@ -1,4 +1,6 @@
 // Asks every question of small circuits and of the one on standard input, and prints the answers.
+#![tactic(auto)]
+
 use console::print;
 use libc::{STDIN_FILENO, STDOUT_FILENO};
 use output::refusals::{fault_line, table_refusal_line};

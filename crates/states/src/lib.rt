@@ -1,4 +1,6 @@
 // States: what a term says of a variable, and the joining of two terms by nine cases of two states.
+#![tactic(auto)]
+
 ghost use Rattle.std.specs.Prelude.{◌≡◌, true, ◌<◌};
 ghost use Rattle.masks.specs.Mask.{width};
 ghost use Rattle.states.specs.Joining.{with_state, join_by_cases};

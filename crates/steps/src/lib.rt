@@ -1,4 +1,6 @@
 // The steps of a loading script: lent as a list of records, and held in plain words.
+#![tactic(auto)]
+
 ghost use Rattle.std.specs.Prelude.{◌≡◌, ◌<◌, length, get_or};
 ghost use Rattle.steps.specs.Steps.{no_step, no_columns, put, step_of, columns, lesser, stored};
 

@@ -1,4 +1,6 @@
 // The words of a node table: what a node's words stand for, 21 and 22, and the refusals of the operations on tables.
+#![tactic(auto)]
+
 ghost use Rattle.std.specs.Prelude.{◌≡◌};
 ghost use Rattle.table.specs.Outcome.{number_of, node_of};
 

@@ -1,4 +1,6 @@
 // Terms: conjunctions of literals, as two masks.
+#![tactic(auto)]
+
 ghost use Rattle.std.specs.Prelude.{◌≡◌, [], ◌<◌};
 ghost use Rattle.terms.specs.Order.{before};
 ghost use Rattle.terms.specs.Term.{has, is_term, variables, literals, without, extend, join, inside, conflict};

@@ -1,2 +1,4 @@
 // The reading of assignment lines.
+#![tactic(auto)]
+
 pub mod assignment;

@@ -1,4 +1,6 @@
 // Reads texts, valid and damaged, and prints what was found in each: the table, or the refusal with its place.
+#![tactic(auto)]
+
 use console::print;
 use output::refusals::fault_line;
 use output::{refusal_line, term_line};

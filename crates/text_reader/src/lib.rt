@@ -1,4 +1,6 @@
 // The reading of circuit text.
+#![tactic(auto)]
+
 mod children;
 mod form;
 mod held;

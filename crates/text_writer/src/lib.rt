@@ -1,3 +1,5 @@
 // The writing of text: bytes and numbers, and the text of a table.
+#![tactic(auto)]
+
 pub mod sink;
 pub mod writer;

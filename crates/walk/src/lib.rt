@@ -1,4 +1,6 @@
 // The walk of a loading script: after each step the status of what is known, and how many prime implicants do not conflict with it.
+#![tactic(auto)]
+
 ghost use Rattle.std.specs.Prelude.{◌≡◌, true, not, ◌<◌, ◌≤◌, T, length};
 ghost use Rattle.table.specs.Outcome.{accepted, answered};
 ghost use Rattle.steps.specs.Steps.{steps_in};

@@ -1,5 +1,7 @@
 // Weights of variables: their test, and the weight of a term, which is looked up in sums that are made once, a byte of the term's
 // variables at a time.
+#![tactic(auto)]
+
 ghost use Rattle.std.specs.Prelude.{◌≡◌, not, ℕ, ◌+◌, ◌≤◌, ◌<◌, eqb, length, get_or};
 ghost use Rattle.terms.specs.Lists.{any};
 ghost use Rattle.terms.specs.Term.{variables};

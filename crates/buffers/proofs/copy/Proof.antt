@@ -17,7 +17,7 @@ decreases-loop to₀ from at count j₀ to j = count - j
 loop-holds : tie.Need-loop-init invariant-loop decreases-loop
 loop-holds c = search rules
 
-add-to : tie.Need-overflow-add-to invariant-loop decreases-loop
+add-to : tie.Need-overflow_add-to invariant-loop decreases-loop
 add-to c = search rules
 
 mul-to : tie.Need-overflow-mul-to invariant-loop decreases-loop
@@ -32,7 +32,7 @@ mul-to-2 c = search rules
 slice-write-to : tie.Need-slice-write-to invariant-loop decreases-loop
 slice-write-to c = search rules
 
-add-j : tie.Need-overflow-add-j invariant-loop decreases-loop
+add-j : tie.Need-overflow_add-j invariant-loop decreases-loop
 add-j c = search rules
 
 loop-less : tie.Need-loop-smaller invariant-loop decreases-loop

@@ -24,7 +24,7 @@ mul-buffer c = search rules
 slice-write-buffer : tie.Need-slice-write-buffer invariant-loop decreases-loop
 slice-write-buffer c = search rules
 
-add-k : tie.Need-overflow-add-k invariant-loop decreases-loop
+add-k : tie.Need-overflow_add-k invariant-loop decreases-loop
 add-k c = search rules
 
 loop-less : tie.Need-loop-smaller invariant-loop decreases-loop

@@ -24,7 +24,7 @@ mul-buffer c = search rules
 slice-write-buffer : tie.Need-slice-write-buffer invariant-loop decreases-loop
 slice-write-buffer c = search rules
 
-add-i : tie.Need-overflow-add-i invariant-loop decreases-loop
+add-i : tie.Need-overflow_add-i invariant-loop decreases-loop
 add-i c = search rules
 
 loop-less : tie.Need-loop-smaller invariant-loop decreases-loop

@@ -5,7 +5,7 @@ ghost use Rattle.console.specs.Input.{Within};
 use libc::STDIN_FILENO;
 
 // How many bytes came, or that a read failed.
-#[derive(Drop)]
+#[derive(Clone, Copy)]
 pub enum Input {
     Bytes(usize),
     Failed,

@@ -16,14 +16,14 @@ use subsumption::Found;
 use terms::Term;
 
 // A literal: a variable and its sign.
-#[derive(Drop)]
+#[derive(Clone, Copy)]
 pub struct Literal {
     pub variable: u32,
     pub sign: bool,
 }
 
 // A place of the side, and whether a term of the other side is inside the term there.
-#[derive(Drop)]
+#[derive(Clone, Copy)]
 struct One {
     at: usize,
     found: Found,

@@ -23,7 +23,7 @@ use table::{Checked, MAX_VARIABLES, Refusal};
 const VARIABLES: usize = MAX_VARIABLES as usize;
 
 // What the listing answers: how many terms the shown list has; specs/Filtered.antt has the scope's numbers.
-#[derive(Drop)]
+#[derive(Clone, Copy)]
 pub enum FilteredListing {
     Listed(u32),
     Refused(Refusal),

@@ -25,7 +25,7 @@ use table::{Checked, MAX_NODES, Refusal};
 pub const SMALL: usize = 256;
 
 // What a listing answers; specs/Listing.antt has the scope's numbers.
-#[derive(Drop)]
+#[derive(Clone, Copy)]
 pub enum Listing {
     Listed,
     Refused(Refusal),
@@ -64,7 +64,7 @@ fn clear(positives: &mut [u64], negatives: &mut [u64], counts: &mut [u32])
 
 // What is listed: the nodes' functions or, where the sign is false, their negations; how many variables and nodes the circuit has, and
 // the capacity of a node's part.
-#[derive(Drop)]
+#[derive(Clone, Copy)]
 pub struct Shape {
     pub sign: bool,
     pub variables: u32,

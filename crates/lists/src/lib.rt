@@ -10,7 +10,7 @@ use terms::Term;
 pub const MAX_CAPACITY: u32 = 4096;
 
 // The places of two terms whose join is shorter, or that there are none.
-#[derive(Drop)]
+#[derive(Clone, Copy)]
 pub enum Shorter {
     None,
     At(usize, usize),

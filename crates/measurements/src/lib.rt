@@ -11,7 +11,7 @@ ghost use Rattle.measurements.specs.Walk.{first_wrong, Usable};
 use terms::Term;
 
 // The term with the measurements' literals, or the lowest wrong one; specs/Answers.antt has the scope's number.
-#[derive(Drop)]
+#[derive(Clone, Copy)]
 pub enum Measured {
     Known(Term),
     Wrong(usize),

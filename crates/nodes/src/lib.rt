@@ -107,14 +107,14 @@ fn make(
 }
 
 // Terms of a node in the buffers: the first place, and how many.
-#[derive(Drop)]
+#[derive(Clone, Copy)]
 pub struct Terms {
     pub from: usize,
     pub count: usize,
 }
 
 // A part of the buffers, a gate with its sign, and where its two lists of terms stand.
-#[derive(Drop)]
+#[derive(Clone, Copy)]
 pub struct Part {
     pub gate: Gate,
     pub sign: bool,
@@ -176,7 +176,7 @@ fn fill_part(
 
 // A node's part of the buffers: its gate, with the sign false where the negation is listed, and its children. The terms of child c
 // stand from entry c * capacity on.
-#[derive(Drop)]
+#[derive(Clone, Copy)]
 pub struct NodePart {
     pub gate: Gate,
     pub sign: bool,

@@ -12,7 +12,7 @@ use settling::counts::{Counts, Growth};
 use settling::rows::{Row, settle_row};
 
 // The first row of a side that is not settled, what the last one cost, and whether the side's columns are made.
-#[derive(Drop)]
+#[derive(Clone, Copy)]
 pub struct Side {
     pub at: usize,
     pub cost: usize,
@@ -20,7 +20,7 @@ pub struct Side {
 }
 
 // What is listed and kept, and where each side stands.
-#[derive(Drop)]
+#[derive(Clone, Copy)]
 pub struct Turn {
     pub listed: usize,
     pub kept: usize,
@@ -28,7 +28,7 @@ pub struct Turn {
     pub high: Side,
 }
 
-#[derive(Drop)]
+#[derive(Clone, Copy)]
 pub enum Turned {
     Next(Turn),
     Over,

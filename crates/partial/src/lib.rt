@@ -16,7 +16,7 @@ use table::{Checked, Refusal};
 use terms::Term;
 
 // What the completions say together, the scope's verdict on a half-known stow; specs/Answers.antt has its numbers.
-#[derive(Drop)]
+#[derive(Clone, Copy)]
 pub enum Status {
     // no completion satisfies the circuit: forbidden
     Falsified,
@@ -38,7 +38,7 @@ pub fn status_number(s: Status) -> u32
 }
 
 // The status, and how many completions satisfy the circuit and how many do not.
-#[derive(Drop)]
+#[derive(Clone, Copy)]
 pub struct Judgement {
     pub status: Status,
     pub models: u64,
@@ -46,7 +46,7 @@ pub struct Judgement {
 }
 
 // The answer: a measurement may be wrong, by its place in the lists.
-#[derive(Drop)]
+#[derive(Clone, Copy)]
 pub enum PartialEvaluation {
     Judged(Judgement),
     Measurement(usize),

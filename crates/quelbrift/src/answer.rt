@@ -7,7 +7,7 @@ use table::{Refusal, node_of, number_of};
 
 // 0, or the scope's number of a refusal with its place, node or needed length; and up to three values.
 #[repr(C)]
-#[derive(Drop)]
+#[derive(Clone, Copy)]
 pub struct Answer {
     pub number: u32,
     pub place: u64,

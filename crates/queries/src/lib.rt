@@ -12,28 +12,28 @@ use terms::Term;
 
 // The answers; specs/Answers.antt has the scope's numbers.
 // The verdict for a stow.
-#[derive(Drop)]
+#[derive(Clone, Copy)]
 pub enum Evaluation {
     Value(bool),
     Refused(Refusal),
 }
 
 // The count of allowed stows.
-#[derive(Drop)]
+#[derive(Clone, Copy)]
 pub enum Counted {
     Models(u64),
     Refused(Refusal),
 }
 
 // The answer to a test of a row.
-#[derive(Drop)]
+#[derive(Clone, Copy)]
 pub enum Tested {
     Answer(bool),
     Refused(Refusal),
 }
 
 // The row left by striking down.
-#[derive(Drop)]
+#[derive(Clone, Copy)]
 pub enum Reduction {
     Reduced(Term),
     Refused(Refusal),

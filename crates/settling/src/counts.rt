@@ -9,7 +9,7 @@ use insertion::Kept;
 use terms::Term;
 
 // How many terms are listed, how many of them are kept at hand, and what the last row of joins cost.
-#[derive(Drop)]
+#[derive(Clone, Copy)]
 pub struct Counts {
     pub listed: usize,
     pub kept: usize,
@@ -17,7 +17,7 @@ pub struct Counts {
 }
 
 // The counts after a growth, or that there are more terms than the slices have entries.
-#[derive(Drop)]
+#[derive(Clone, Copy)]
 pub enum Growth {
     To(Counts),
     Over,

@@ -16,7 +16,7 @@ use super::strike::strike;
 use terms::Term;
 
 // The places of two terms, one of each side, how far the list has grown, and whether the columns are made.
-#[derive(Drop)]
+#[derive(Clone, Copy)]
 struct Pair {
     low: usize,
     high: usize,
@@ -25,7 +25,7 @@ struct Pair {
 }
 
 // Whether the pair is settled, and what was spent on the row then.
-#[derive(Drop)]
+#[derive(Clone, Copy)]
 struct Tried {
     settled: bool,
     cost: usize,
@@ -178,7 +178,7 @@ fn spread_new(
 
 // What is listed so far, a place of the one side, the first place of the other, whether that side's columns are made, and the hint of the
 // row's term.
-#[derive(Drop)]
+#[derive(Clone, Copy)]
 pub struct Row {
     pub counts: Counts,
     pub at: usize,

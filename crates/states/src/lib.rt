@@ -9,7 +9,7 @@ ghost use Rattle.states.specs.States.{join_states, state_at, case_at};
 use terms::Term;
 
 // What a term says of a variable: the scope's absent, no and yes.
-#[derive(Drop)]
+#[derive(Clone, Copy)]
 pub enum State {
     Absent,
     Negative,
@@ -17,14 +17,14 @@ pub enum State {
 }
 
 // What two states of one variable make: one state, or a conflict, the scope's clash.
-#[derive(Drop)]
+#[derive(Clone, Copy)]
 pub enum StateJoin {
     Is(State),
     Conflict,
 }
 
 // What two terms make: one term, or a conflict.
-#[derive(Drop)]
+#[derive(Clone, Copy)]
 pub enum TermJoin {
     Is(Term),
     Conflict,

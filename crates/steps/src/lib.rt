@@ -9,14 +9,14 @@ pub const MAX_STEPS: usize = 256;
 
 // A step: the variable (the scope's fact) and the act, 0 for no, 1 for yes, 2 for drop.
 #[repr(C)]
-#[derive(Drop)]
+#[derive(Clone, Copy)]
 pub struct Step {
     pub variable: u32,
     pub act: u32,
 }
 
 // The first 256 steps, a column for each word.
-#[derive(Drop)]
+#[derive(Clone, Copy)]
 pub struct Columns {
     pub variables: [u32; 256],
     pub acts: [u32; 256],

@@ -11,7 +11,7 @@ use insertion::Place;
 use terms::Term;
 
 // The place of a term inside the given one, or that there is none.
-#[derive(Drop)]
+#[derive(Clone, Copy)]
 pub enum Found {
     At(usize),
     Nowhere,

@@ -7,7 +7,7 @@ ghost use Rattle.table.specs.Node.{max_nodes};
 use super::layout::{Children, words_at};
 
 // The kind of a node, with the words that the kind uses. The children of a conjunction stand beside it, since no enum holds an array.
-#[derive(Drop)]
+#[derive(Clone, Copy)]
 pub enum Gate {
     Constant(bool),
     // the sign, and the variable
@@ -20,7 +20,7 @@ pub enum Gate {
 }
 
 // A node: its gate and its children.
-#[derive(Drop)]
+#[derive(Clone, Copy)]
 pub struct Decoded {
     pub gate: Gate,
     pub children: Children,

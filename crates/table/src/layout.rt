@@ -11,14 +11,14 @@ pub const NODE_WORDS: usize = 11;
 pub const MAX_CHILDREN: usize = 8;
 
 // The children of a node: how many, and their numbers. The other words are unused.
-#[derive(Drop)]
+#[derive(Clone, Copy)]
 pub struct Children {
     pub count: u32,
     pub nodes: [u32; MAX_CHILDREN],
 }
 
 // The words of a node.
-#[derive(Drop)]
+#[derive(Clone, Copy)]
 pub struct NodeWords {
     pub kind: u32,
     pub variable: u32,

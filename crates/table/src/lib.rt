@@ -27,7 +27,7 @@ pub const DECISION: u32 = 4;
 pub const CONJUNCTION: u32 = 5;
 
 // Why an operation on a table refuses; specs/Outcome.antt has the scope's numbers.
-#[derive(Drop)]
+#[derive(Clone, Copy)]
 pub enum Refusal {
     // N or n out of range, or too few words
     Sizes,
@@ -56,7 +56,7 @@ pub enum Refusal {
 }
 
 // Whether a table, or an argument with it, is accepted.
-#[derive(Drop)]
+#[derive(Clone, Copy)]
 pub enum Checked {
     Accepted,
     Refused(Refusal),

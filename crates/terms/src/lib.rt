@@ -6,7 +6,7 @@ ghost use Rattle.terms.specs.Order.{before};
 ghost use Rattle.terms.specs.Term.{has, is_term, variables, literals, without, extend, join, inside, conflict};
 
 // The scope's row: bit i of `positive` marks fact i yes, bit i of `negative` marks it no.
-#[derive(Drop)]
+#[derive(Clone, Copy)]
 pub struct Term {
     pub positive: u64,
     pub negative: u64,

@@ -3,7 +3,7 @@ ghost use Rattle.std.specs.Prelude.{◌≡◌};
 ghost use Rattle.text.specs.Answers.{fault_number};
 
 // Why a circuit text is refused.
-#[derive(Drop)]
+#[derive(Clone, Copy)]
 pub enum Fault {
     // 10: over 110,000 bytes
     Length,
@@ -33,7 +33,7 @@ pub fn fault_number(fault: Fault) -> u32
     }
 }
 
-#[derive(Drop)]
+#[derive(Clone, Copy)]
 pub enum Reading {
     // the number of variables and the number of nodes
     Circuit(u32, u32),
@@ -42,7 +42,7 @@ pub enum Reading {
 }
 
 // After a form was read.
-#[derive(Drop)]
+#[derive(Clone, Copy)]
 pub enum Step {
     Stop(Fault, usize),
     // the place past the form, the number of nodes now, and the node that the form means

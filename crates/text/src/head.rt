@@ -8,7 +8,7 @@ use super::answer::Fault;
 use super::number::{CLOSE, Numeral, OPEN, SPACE, byte_at, number};
 use table::{FALSE, NEGATIVE, POSITIVE, TRUE};
 
-#[derive(Drop)]
+#[derive(Clone, Copy)]
 pub enum Matched {
     // the place past the bytes
     Past(usize),
@@ -31,7 +31,7 @@ pub fn match_at(s: &[u8], at: usize, w: &[u8]) -> Matched
     Matched::Past(at + i)
 }
 
-#[derive(Drop)]
+#[derive(Clone, Copy)]
 pub enum InRange {
     // the number, and the place past it
     Inside(u32, usize),
@@ -61,7 +61,7 @@ pub fn ranged(s: &[u8], at: usize, low: u32, high: u32, next: u32, fault: Fault)
 }
 
 // The words that forms begin with.
-#[derive(Drop)]
+#[derive(Clone, Copy)]
 pub enum Word {
     False,
     True,
@@ -73,14 +73,14 @@ pub enum Word {
 }
 
 // Where a form stands: as a line's own form, which is not `line`, or as an argument of another form.
-#[derive(Drop)]
+#[derive(Clone, Copy)]
 pub enum Role {
     OwnForm,
     Argument,
 }
 
 // Which word stands at a place.
-#[derive(Drop)]
+#[derive(Clone, Copy)]
 pub enum Spelled {
     // this one; the place past it
     Is(Word, usize),
@@ -133,7 +133,7 @@ fn word_at(s: &[u8], at: usize, role: Role) -> Spelled
 }
 
 // What does not change while a line is read.
-#[derive(Drop)]
+#[derive(Clone, Copy)]
 pub struct Limits {
     // the number of variables
     pub variables: u32,
@@ -144,7 +144,7 @@ pub struct Limits {
 }
 
 // What an inner form makes of the forms in it.
-#[derive(Drop)]
+#[derive(Clone, Copy)]
 pub enum Operator {
     // `pick`, with its variable
     Decision(u32),
@@ -152,7 +152,7 @@ pub enum Operator {
     Conjunction,
 }
 
-#[derive(Drop)]
+#[derive(Clone, Copy)]
 pub enum Opening {
     Broken(Fault, usize),
     // kind and variable of a form with no child

@@ -39,7 +39,7 @@ fn digit(s: &[u8], at: usize) -> u32
     c - FIRST_DIGIT
 }
 
-#[derive(Drop)]
+#[derive(Clone, Copy)]
 pub enum Numeral {
     // the number, and the place past it
     Value(u32, usize),

@@ -11,7 +11,7 @@ use table::MAX_VARIABLES;
 use text::head::{Matched, match_at};
 use text::number::{CLOSE, END, NEWLINE, Numeral, SPACE, byte_at, number};
 
-#[derive(Drop)]
+#[derive(Clone, Copy)]
 pub enum AssignmentReading {
     // the mask of the variables that are true
     Assignment(u64),
@@ -24,7 +24,7 @@ pub enum AssignmentReading {
 }
 
 // What stands next in an assignment line.
-#[derive(Drop)]
+#[derive(Clone, Copy)]
 pub enum Member {
     // the closing bracket; the place past it
     Close(usize),

@@ -9,7 +9,7 @@ use super::lines::lines;
 use text::answer::Reading;
 
 // The lent text, and a place in it.
-#[derive(Drop)]
+#[derive(Clone, Copy)]
 pub struct HeldText<'a> {
     pub text: &'a [u8],
     pub at: usize,

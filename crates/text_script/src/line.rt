@@ -15,7 +15,7 @@ const SMALL_S: u32 = b's' as u32;
 
 const SMALL_Y: u32 = b'y' as u32;
 
-#[derive(Drop)]
+#[derive(Clone, Copy)]
 pub enum LineReading {
     // a variable, an act, and the place past the line
     Step(u32, u32, usize),

@@ -11,7 +11,7 @@ use table::MAX_VARIABLES;
 use text::number::{END, OPEN, byte_at};
 
 // What the reading answers; specs/Answers.antt has the scope's numbers.
-#[derive(Drop)]
+#[derive(Clone, Copy)]
 pub enum ScriptReading {
     // the number of steps
     Steps(usize),
@@ -24,7 +24,7 @@ pub enum ScriptReading {
 }
 
 // The answer, with the steps: none where the script is refused.
-#[derive(Drop)]
+#[derive(Clone, Copy)]
 pub struct Script {
     pub columns: Columns,
     pub count: usize,

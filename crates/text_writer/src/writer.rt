@@ -15,7 +15,7 @@ use table::layout::Children;
 use table::words::check_words;
 use table::{Checked, Refusal};
 
-#[derive(Drop)]
+#[derive(Clone, Copy)]
 pub enum Written {
     // the length of the text
     Done(usize),

@@ -23,7 +23,7 @@ use table::{Checked, Refusal};
 use terms::Term;
 
 // What is wrong with the steps, by the lowest; specs/Answers.antt has the scope's numbers.
-#[derive(Drop)]
+#[derive(Clone, Copy)]
 pub enum StepsChecked {
     Accepted,
     // an act above 2, or a step beyond 256
@@ -33,7 +33,7 @@ pub enum StepsChecked {
 }
 
 // What a walk answers; specs/Answers.antt has the scope's numbers.
-#[derive(Drop)]
+#[derive(Clone, Copy)]
 pub enum Walked {
     // the first step from which on every status is Satisfied ("allowed")
     Settled(usize),
@@ -104,7 +104,7 @@ fn count_compatible(positives: &[u64], negatives: &[u64], t: Term) -> u32
 }
 
 // What does not change from step to step: the steps, and how many variables and nodes the circuit has.
-#[derive(Drop)]
+#[derive(Clone, Copy)]
 struct Plan {
     columns: Columns,
     variables: u32,

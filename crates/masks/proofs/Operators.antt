@@ -166,7 +166,7 @@ trailing-lowest (suc k) m h pos = by (m % 2) refl (mod2 m) (trailing-lowest k (m
     by zero e l rest =
         let (here, none) = rest (omega (arith, pos, e)) in (
           here,
-          λ i. elim i [
+          λ i. elim i as (λ i. i < suc (count_trailing_zeros k (m / 2)) → T (not (bit m i))) [
             | zero ↦ λ below. along (sym (ap (λ (x : ℕ). not (eqb x 1)) e)) tt
             | suc i ↦ λ below. none i (le_of_suc-le-suc below)
           ],

@@ -1,0 +1,6 @@
+-- `masks::with_bit` meets its contract.
+use Rattle.masks.proofs.Operators.{one_shift, or_put}
+use Rattle.masks.proofs.with_bit.Goals as goal
+
+pub returns : goal.returns
+returns c = rw (one_shift 64 c.args.i c.requires) (or_put 64 _ _ c.ranges.mask.fits c.requires)

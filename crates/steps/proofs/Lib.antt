@@ -1,2 +1,1 @@
 pub mod ColumnLaws
-pub mod StepsWalk

@@ -149,7 +149,7 @@ module _ (N : ℕ) where
   term-ext t u h k i j = masks-ext t u h.fits k.fits (λ x b l. same_test (has t b x) (has u b x) (i x b) (j x b))
 
   pub empty-IsTerm : IsTerm N empty
-  empty-IsTerm = record { fits = λ b. elim b [ true ↦ pow_pos N | false ↦ pow_pos N ]; once = λ x b c p q. absurd (empty-has x b p) }
+  empty-IsTerm = record { fits = λ b. elim b as (λ b. mask empty b < 2 ^ N) [ true ↦ pow_pos N | false ↦ pow_pos N ]; once = λ x b c p q. absurd (empty-has x b p) }
 
   pub without-IsTerm : (t : Term) (x : ℕ) → IsTerm N t → IsTerm N (without t x)
   without-IsTerm t x h =

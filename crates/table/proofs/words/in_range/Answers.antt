@@ -6,18 +6,10 @@ use lib.Dec.{leb}
 use lib.ListN.{length}
 use Rattle.table.specs.Node.{max_nodes}
 use Rattle.table.specs.Words.{variables_fit}
-use borrow.Author.Rules.{rules}
-use Rattle.table.proofs.words.in_range.Statement.{statement}
-use Rattle.table.proofs.words.in_range.Tie as tie
+use Rattle.table.proofs.words.in_range.Goals as goal
 
-words-for-requires : tie.Need-words-for-requires
-words-for-requires c κs = search rules
-
-returns : tie.Need-returns
+pub returns : goal.returns
 returns c =
     let x = c.before.before.args in
     ap (λ (k : ℕ). variables_fit x.variables && leb 1 x.nodes && leb x.nodes max_nodes && leb k (length x.words.now))
-    c.words-for.ensures
-
-pub in-range-spec : {M : Type 1} → statement M
-in-range-spec = tie.close (tie.spec words-for-requires returns)
+    c.words_for.ensures

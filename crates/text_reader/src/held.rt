@@ -1,5 +1,4 @@
-// The held text: the reader carries the lent text itself and no copy of it. The borrow checker covers no function over a
-// struct that holds a reference, so these are few and thin, and each is proved by hand.
+// The held text: the reader carries the lent text itself and no copy of it.
 ghost use Rattle.std.specs.Prelude.{◌≡◌, ◌≤◌, length, replicate};
 ghost use Rattle.text.specs.Limits.{max_lines};
 ghost use Rattle.text.specs.Places.{ReadIs};
@@ -22,7 +21,7 @@ pub fn hold<'a>(text: &'a [u8], at: usize) -> HeldText<'a>
     HeldText { text, at }
 }
 
-// Takes the held text apart: the covered function reads its lines, from its place on, into the lent words.
+// Takes the held text apart, and reads its lines, from its place on, into the lent words.
 pub fn read_lines<'a, 'b>(held: HeldText<'a>, words: &'b mut [u32], variables: u32) -> Reading
     requires { held.at ≤ length held.text.now }
     ensures { ReadIs result words.new
@@ -32,7 +31,7 @@ pub fn read_lines<'a, 'b>(held: HeldText<'a>, words: &'b mut [u32], variables: u
     lines(held.text, held.at, words, variables)
 }
 
-// The same with plain parameters, so that each caller is covered: the text is held at the place for the one call.
+// The same with plain parameters: the text is held at the place for the one call.
 pub fn lines_from<'a, 'b>(
     text: &'a [u8],
     at: usize,

@@ -53,6 +53,9 @@ pub record Read (n : ℕ) (w : List ℕ) (i : ℕ) (r : Decoded) : Type 0 where
   pub below : i < n
   pub is : r ≡ decoded_at w i
 
+pub reading : {n : ℕ} {w : List ℕ} {i : ℕ} {r : Decoded} → Readable n w → i < n → r ≡ decoded_at w i → Read n w i r
+reading a b e = record { readable = a; below = b; is = e }
+
 -- its children stand below it
 pub read-children : {n : ℕ} {w : List ℕ} {i : ℕ} {r : Decoded} → Read n w i r → ChildrenBelow i r.children
 read-children {n} {w} {i} {r} h =

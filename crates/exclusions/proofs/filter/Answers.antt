@@ -1,0 +1,112 @@
+use Prim.Native.Nat.{ℕ, ◌+◌}
+use mathlib.Core.Path.{◌≡◌, refl, sym, ap, ◌∙◌}
+use mathlib.Core.Bool.{Bool, true, false, not}
+use mathlib.Core.Logic.{⊎_elim}
+use mathlib.Core.List.{List, ◌∷◌}
+use native.Mathlib.Omega.{arith}
+use lib.ListN.{length, drop, set, replicate, length-set, length-replicate}
+use Rattle.masks.proofs.Tests.{was-true, was-false, either}
+use Rattle.terms.specs.Term.{mask, terms_of}
+use Rattle.terms.specs.declared.Term.{Term}
+use Rattle.lists.proofs.Parts.{drop-terms, drop-end}
+use Rattle.insertion.specs.Filled.{by_sign}
+use Rattle.exclusions.specs.Exclusions.{respects, Exclusions}
+use Rattle.exclusions.specs.Partners.{Folded}
+use Rattle.exclusions.proofs.Filtering.{filtering-start, filtering-end, filtering-skip, filtering-keep}
+use Rattle.exclusions.proofs.filter.Goals as goal
+use Rattle.exclusions.proofs.filter.Lts as lts
+use Rattle.exclusions.proofs.filter.Reads as reads
+use Rattle.exclusions.proofs.filter.Tie as tie
+
+-- at the start both slices are zeros, one for each entry of the first
+zeros : (s : lts.Start tie.the-claims reads.Pre reads.Post goal.the-invariant-loop-k goal.the-decreases-loop-k tie.handed_clauses) (b : Bool)
+    → by_sign s.args.positives.now s.args.negatives.now b ≡ replicate (length s.args.positives.now) 0
+zeros s true = s.requires.positives_value.0
+zeros s false = s.requires.positives_value.1
+
+level : (s : lts.Start tie.the-claims reads.Pre reads.Post goal.the-invariant-loop-k goal.the-decreases-loop-k tie.handed_clauses) → length s.args.negatives.now ≡ length s.args.positives.now
+level s = ap length (zeros s false) ∙ length-replicate (length s.args.positives.now) 0
+
+pub loop-k-init : goal.loop-k-init
+loop-k-init c =
+    let s = c.before.before.before.before.before in
+    let x = s.args in (
+      omega arith,
+      omega arith,
+      refl,
+      refl,
+      λ e f.
+          filtering-start e (terms_of x.lp.now x.ln.now) (length x.positives.now)
+          (by_sign x.positives.now x.negatives.now) (zeros s.before),
+    )
+
+pub bounds-negatives-count : goal.bounds-negatives-count
+bounds-negatives-count c =
+    let l = c.before.before.before.before in
+    omega (arith, level l.before.before.before.before.before.before.before)
+
+-- the term of a turn, which is the first of what is left
+module _ (c : lts.After-violates tie.the-claims reads.Pre reads.Post goal.the-invariant-loop-k goal.the-decreases-loop-k tie.handed_clauses) where
+  abbrev turn : lts.At-loop tie.the-claims reads.Pre reads.Post goal.the-invariant-loop-k goal.the-decreases-loop-k tie.handed_clauses
+  turn = c.before.before.before
+
+  abbrev start : lts.Start tie.the-claims reads.Pre reads.Post goal.the-invariant-loop-k goal.the-decreases-loop-k tie.handed_clauses
+  start = turn.before.before.before.before.before.before
+
+  abbrev list : List Term
+  list = terms_of start.args.lp.now start.args.ln.now
+
+  abbrev room : ℕ
+  room = length start.args.positives.now
+
+  abbrev own : Term
+  own = c.before.term_at-t.result
+
+  first : drop turn.loop-k.k list ≡ own ∷ drop (turn.loop-k.k + 1) list
+  first =
+      drop-terms start.args.lp.now start.args.ln.now start.requires.ln_len.0 turn.loop-k.k (omega arith)
+      ∙ ap (λ (t : Term). t ∷ drop (turn.loop-k.k + 1) list) (sym c.before.term_at-t.ensures)
+
+  -- what the test says
+  module _ (e : Exclusions) (f : Folded e (length e.firsts) start.args.partners.now start.args.heads) where
+    passes : not c.violates.result ≡ true → respects e own ≡ true
+    passes h = was-true (respects e own) (sym (c.violates.ensures e f) ∙ was-false c.violates.result h)
+
+    fails : not c.violates.result ≡ false → respects e own ≡ false
+    fails h = was-false (respects e own) (sym (c.violates.ensures e f) ∙ was-true c.violates.result h)
+
+pub loop-k-preserved : goal.loop-k-preserved
+loop-k-preserved c =
+    let d = c.before in
+    let l = (turn d.before).loop-k in
+    let s : Bool → List ℕ = by_sign l.positives l.negatives in
+    let s' : Bool → List ℕ = by_sign c.if-not-violates.positives c.if-not-violates.negatives in
+    ⊎_elim
+    (λ w. (
+      omega arith,
+      omega arith,
+      ap length w.1 ∙ simp length-set l.invariant.2,
+      ap length w.2 ∙ simp length-set l.invariant.3,
+      λ e f.
+          filtering-keep e (list d.before) (room d.before) s l.count (own d.before) (first d.before) (l.invariant.4 e f) s' c.if-not-violates.count
+          (passes d.before e f w.0.true) (omega arith)
+          (either (λ b. s' b ≡ set (s b) l.count (mask (own d.before) b)) true w.1 w.2) w.3,
+    ))
+    (λ w. (
+      omega arith,
+      omega arith,
+      ap length w.1 ∙ l.invariant.2,
+      ap length w.2 ∙ l.invariant.3,
+      λ e f.
+          filtering-skip e (list d.before) (room d.before) s l.count (own d.before) (first d.before) (l.invariant.4 e f) s' c.if-not-violates.count
+          (fails d.before e f w.0.false) (either (λ b. s' b ≡ s b) true w.1 w.2) w.3,
+    ))
+    c.if-not-violates.branch
+
+pub returns : goal.returns
+returns c e f =
+    let l = c.before.loop-k in
+    let s = c.before.before.before.before.before.before.before in
+    let x = s.args in
+    filtering-end e (terms_of x.lp.now x.ln.now) (length x.positives.now) (by_sign l.positives l.negatives) l.count
+    (drop-end x.lp.now x.ln.now s.requires.ln_len.0 l.k (omega arith)) (l.invariant.4 e f)

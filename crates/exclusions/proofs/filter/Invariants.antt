@@ -1,0 +1,19 @@
+-- `exclusions::filter` meets its contract. The loop's invariant: the list is filtered up to term k.
+use Prim.Native.Nat.{◌-◌, ◌≤◌}
+use mathlib.Core.Path.{◌≡◌}
+use lib.ListN.{length, drop}
+use Rattle.terms.specs.Term.{terms_of}
+use Rattle.insertion.specs.Filled.{by_sign}
+use Rattle.exclusions.specs.Exclusions.{Exclusions}
+use Rattle.exclusions.specs.Partners.{Folded}
+use Rattle.exclusions.proofs.Filtering.{Filtering}
+use Rattle.exclusions.proofs.filter.Given as goal
+
+abbrev pub invariant-loop-k : goal.invariant-loop-k
+invariant-loop-k l =
+    (l.k ≤ length l.lp) × (l.count ≤ l.k) × (length l.positives ≡ length l.initial.positives) × (length l.negatives ≡ length l.initial.negatives)
+    × ((e : Exclusions) → Folded e (length e.firsts) l.partners l.heads
+    → Filtering e (terms_of l.lp l.ln) (drop l.k (terms_of l.lp l.ln)) (length l.initial.positives) (by_sign l.positives l.negatives) l.count)
+
+abbrev pub decreases-loop-k : goal.decreases-loop-k
+decreases-loop-k l = length l.lp - l.k

@@ -14,6 +14,7 @@ use Rattle.exclusions.specs.Exclusions.{respects, Exclusions}
 use Rattle.exclusions.specs.Partners.{Folded}
 use Rattle.exclusions.proofs.Filtering.{filtering-start, filtering-end, filtering-skip, filtering-keep}
 use Rattle.exclusions.proofs.filter.Goals as goal
+use Rattle.exclusions.proofs.filter.Goals.{then-not-violates, else-not-violates}
 use Rattle.exclusions.proofs.filter.Lts as lts
 use Rattle.exclusions.proofs.filter.Reads as reads
 use Rattle.exclusions.proofs.filter.Tie as tie
@@ -69,39 +70,39 @@ module _ (c : lts.After-violates tie.the-claims reads.Pre reads.Post goal.the-in
 
   -- what the test says
   module _ (e : Exclusions) (f : Folded e (length e.firsts) start.args.partners.now start.args.heads) where
-    passes : not c.violates.result ≡ true → respects e own ≡ true
-    passes h = was-true (respects e own) (sym (c.violates.ensures e f) ∙ was-false c.violates.result h)
+    passes : c.violates.result ≡ false → respects e own ≡ true
+    passes h = was-true (respects e own) (sym (c.violates.ensures e f) ∙ h)
 
-    fails : not c.violates.result ≡ false → respects e own ≡ false
-    fails h = was-false (respects e own) (sym (c.violates.ensures e f) ∙ was-true c.violates.result h)
+    fails : c.violates.result ≡ true → respects e own ≡ false
+    fails h = was-false (respects e own) (sym (c.violates.ensures e f) ∙ h)
 
 pub loop-k-preserved : goal.loop-k-preserved
 loop-k-preserved c =
-    let d = c.before in
-    let l = (turn d.before).loop-k in
+    let d = c.before.before in
+    let l = c.loop-k in
     let s : Bool → List ℕ = by_sign l.positives l.negatives in
     let s' : Bool → List ℕ = by_sign c.if-not-violates.positives c.if-not-violates.negatives in
-    ⊎_elim
-    (λ w. (
-      omega arith,
-      omega arith,
-      ap length w.1 ∙ simp length-set l.invariant.2,
-      ap length w.2 ∙ simp length-set l.invariant.3,
-      λ e f.
-          filtering-keep e (list d.before) (room d.before) s l.count (own d.before) (first d.before) (l.invariant.4 e f) s' c.if-not-violates.count
-          (passes d.before e f w.0.true) (omega arith)
-          (either (λ b. s' b ≡ set (s b) l.count (mask (own d.before) b)) true w.1 w.2) w.3,
-    ))
-    (λ w. (
-      omega arith,
-      omega arith,
-      ap length w.1 ∙ l.invariant.2,
-      ap length w.2 ∙ l.invariant.3,
-      λ e f.
-          filtering-skip e (list d.before) (room d.before) s l.count (own d.before) (first d.before) (l.invariant.4 e f) s' c.if-not-violates.count
-          (fails d.before e f w.0.false) (either (λ b. s' b ≡ s b) true w.1 w.2) w.3,
-    ))
-    c.if-not-violates.branch
+    elim c.if-not-violates.branch [
+      | then-not-violates w ↦ (
+        omega arith,
+        omega arith,
+        ap length w.positives-is ∙ simp length-set l.invariant.2,
+        ap length w.negatives-is ∙ simp length-set l.invariant.3,
+        λ e f.
+            filtering-keep e (list d) (room d) s l.count (own d) (first d) (l.invariant.4 e f) s' c.if-not-violates.count
+            (passes d e f w.if-not-violates.true) (omega arith)
+            (either (λ b. s' b ≡ set (s b) l.count (mask (own d) b)) true w.positives-is w.negatives-is) w.count-is,
+      )
+      | else-not-violates w ↦ (
+        omega arith,
+        omega arith,
+        ap length w.positives-is ∙ l.invariant.2,
+        ap length w.negatives-is ∙ l.invariant.3,
+        λ e f.
+            filtering-skip e (list d) (room d) s l.count (own d) (first d) (l.invariant.4 e f) s' c.if-not-violates.count
+            (fails d e f w.if-not-violates.false) (either (λ b. s' b ≡ s b) true w.positives-is w.negatives-is) w.count-is,
+      )
+    ]
 
 pub returns : goal.returns
 returns c e f =

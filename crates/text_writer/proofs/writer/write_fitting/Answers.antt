@@ -6,13 +6,14 @@ use native.Mathlib.Nat.{zero-add}
 use native.Mathlib.Omega.{arith}
 use lib.ListN.{length, drop}
 use lib.Seq.{sets-eq}
-use borrow.Author.Rules.{rules}
 use borrow.Author.Tests.{lt-ltb, le-ltb}
 use Rattle.table.specs.Outcome.{answered}
 use Rattle.text.specs.Write.{table_text, write_text}
 use Rattle.text_writer.specs.Sink.{WriteIs, Wrote}
 use Rattle.text_writer.specs.declared.writer.Written.TheVariants.{Done, Sink}
-use Rattle.text_writer.proofs.writer.write_fitting.Statement.{statement}
+use Rattle.text_writer.proofs.writer.write_fitting.Goals as goal
+use Rattle.text_writer.proofs.writer.write_fitting.Lts as lts
+use Rattle.text_writer.proofs.writer.write_fitting.Reads as reads
 use Rattle.text_writer.proofs.writer.write_fitting.Tie as tie
 
 module _ (text sink : List ℕ) (m : ℕ) (e : m ≡ length text) where
@@ -29,31 +30,18 @@ module _ (text sink : List ℕ) (m : ℕ) (e : m ≡ length text) where
             ∙ ap (λ (z : ℕ). text ++ drop z sink) (zero-add (length text)),
       )
 
-abbrev text_of : tie.Start → List ℕ
+abbrev text_of : lts.Start tie.the-claims reads.Pre reads.Post → List ℕ
 text_of s = table_text s.args.variables s.args.n s.args.words.now
 
-measure-requires : tie.Need-measure-requires
-measure-requires c κs = search rules
-
-returns : tie.Need-returns
-returns c =
+pub returns-then-sink-need : goal.returns-then-sink-need
+returns-then-sink-need c =
     let s = c.before.before.before.before in
-    short (text_of s) s.args.sink.now c.before.measure.result c.before.measure.ensures c.if1.true
+    short (text_of s.before) c.args.sink.now c.measure-need.result c.measure-need.ensures c.if-sink-need.true
 
-put-table-requires : tie.Need-put-table-requires
-put-table-requires c κs = search rules
-
-same_length : tie.Need-same-length
-same_length c = search rules
-
-returns-2 : tie.Need-returns-2
-returns-2 c =
+pub returns : goal.returns
+returns c =
     let at-put-table = c.before.before in
     let at-if1 = at-put-table.before.before in
     let s = at-if1.before.before.before.before in
-    done (text_of s) s.args.sink.now at-if1.before.measure.result at-if1.before.measure.ensures at-if1.if1.false _
-    at-put-table.put-table.result at-put-table.put-table.ensures
-
-pub write-fitting-spec : {M : Type 1} → statement M
-write-fitting-spec =
-    tie.close (tie.spec measure-requires returns put-table-requires same_length returns-2)
+    done (text_of s.before) c.args.sink.now c.measure-need.result c.measure-need.ensures c.if-sink-need.false _
+    c.put_table.result c.put_table.ensures

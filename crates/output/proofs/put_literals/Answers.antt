@@ -1,0 +1,44 @@
+use Prim.Native.Nat.{ℕ, ◌+◌, ◌*◌, ◌≤◌}
+use mathlib.Core.Path.{◌≡◌, refl, ap, ◌∙◌}
+use mathlib.Core.Bool.{Bool}
+use mathlib.Core.List.{List}
+use native.Mathlib.Omega.{arith}
+use native.Mathlib.Numerals.{add-one}
+use Rattle.masks.specs.Mask.{bit}
+use Rattle.text.specs.Ascii.{ascii}
+use Rattle.text_writer.specs.Sink.{Wrote}
+use Rattle.text_writer.proofs.Sinks.{after, nothing, same}
+use Rattle.terms.specs.declared.Term.{Term}
+use Rattle.output.specs.Lines.{mark_text, literals_text}
+use Rattle.output.proofs.put_literals.Goals as goal
+
+-- the literals of one variable more
+one_more : {d e f g : List ℕ} {at p q r : ℕ} {b c : Bool} (t : Term) (v : ℕ) → b ≡ bit t.positive v → c ≡ bit t.negative v
+    → Wrote d at e p (literals_text t v) → Wrote e p f q (mark_text b (ascii " +") v) → Wrote f q g r (mark_text c (ascii " -") v)
+    → Wrote d at g r (literals_text t (v + 1))
+unfolding literals_text
+one_more t v h k x y z =
+    rw add-one
+    (after (after x (same (ap (λ (b : Bool). mark_text b (ascii " +") v) h) y))
+    (same (ap (λ (b : Bool). mark_text b (ascii " -") v) k) z))
+
+pub loop-v-init : goal.loop-v-init
+unfolding literals_text
+loop-v-init c = (omega arith, omega arith, refl, nothing)
+
+pub loop-v-preserved : goal.loop-v-preserved
+loop-v-preserved c =
+    let l : c.loop-v.v + 1 ≤ 64 = omega arith in
+    let m : c.put_mark-p.result ≤ c.args.start + 40 * (c.loop-v.v + 1) = omega
+    (arith, c.put_mark-p.ensures.1, c.put_mark-q.ensures.1, c.loop-v.invariant.1) in (
+      l,
+      m,
+      c.put_mark-p.auto.d ∙ c.put_mark-q.auto.d ∙ c.loop-v.invariant.2,
+      one_more c.args.t c.loop-v.v c.has_bit.ensures c.has_bit-in-loop-v.ensures
+          c.loop-v.invariant.3 c.put_mark-q.ensures.0 c.put_mark-p.ensures.0,
+    )
+
+pub returns : goal.returns
+returns c =
+    let e : c.loop-v.v ≡ 64 = omega arith in
+    (same (ap (literals_text c.args.t) e) c.loop-v.invariant.3, omega (arith, c.loop-v.invariant.1))

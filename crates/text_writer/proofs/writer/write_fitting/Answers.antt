@@ -1,0 +1,47 @@
+-- `text_writer::writer::write_fitting` meets its contract.
+use Prim.Native.Nat.{ℕ, ◌<◌, ◌≤◌}
+use mathlib.Core.Path.{◌≡◌, refl, ap, ◌∙◌}
+use mathlib.Core.List.{List, ◌++◌}
+use native.Mathlib.Nat.{zero-add}
+use native.Mathlib.Omega.{arith}
+use lib.ListN.{length, drop}
+use lib.Seq.{sets-eq}
+use borrow.Author.Tests.{lt-ltb, le-ltb}
+use Rattle.table.specs.Outcome.{answered}
+use Rattle.text.specs.Write.{table_text, write_text}
+use Rattle.text_writer.specs.Sink.{WriteIs, Wrote}
+use Rattle.text_writer.specs.declared.writer.Written.TheVariants.{Done, Sink}
+use Rattle.text_writer.proofs.writer.write_fitting.Goals as goal
+use Rattle.text_writer.proofs.writer.write_fitting.Lts as lts
+use Rattle.text_writer.proofs.writer.write_fitting.Reads as reads
+use Rattle.text_writer.proofs.writer.write_fitting.Tie as tie
+
+module _ (text sink : List ℕ) (m : ℕ) (e : m ≡ length text) where
+  short : length sink < m → WriteIs (Sink m) sink (write_text text sink)
+  short k = rw (← e, lt-ltb (length sink) m k) (refl, refl)
+
+  done : m ≤ length sink → (v : List ℕ) (p : ℕ) → Wrote sink 0 v p text → WriteIs (Done p) v (write_text text sink)
+  done k v p x =
+      let q : p ≡ length text = x.place ∙ zero-add (length text) in
+      let f : length text ≤ length sink = omega arith in
+      rw (le-ltb (length sink) (length text) f) (
+        ap answered q,
+        x.sink ∙ sets-eq text sink 0 (rw (zero-add (length text)) f)
+            ∙ ap (λ (z : ℕ). text ++ drop z sink) (zero-add (length text)),
+      )
+
+abbrev text_of : lts.Start tie.the-claims reads.Pre reads.Post → List ℕ
+text_of s = table_text s.args.variables s.args.n s.args.words.now
+
+pub returns-then-sink-need : goal.returns-then-sink-need
+returns-then-sink-need c =
+    let s = c.before.before.before.before in
+    short (text_of s.before) c.args.sink.now c.measure-need.result c.measure-need.ensures c.if-sink-need.true
+
+pub returns : goal.returns
+returns c =
+    let at-put-table = c.before.before in
+    let at-if1 = at-put-table.before.before in
+    let s = at-if1.before.before.before.before in
+    done (text_of s.before) c.args.sink.now c.measure-need.result c.measure-need.ensures c.if-sink-need.false _
+    c.put_table.result c.put_table.ensures

@@ -1,0 +1,12 @@
+-- `pairing::pairs::goes_low` meets its contract.
+use native.Mathlib.Omega.{arith}
+use Rattle.masks.proofs.Numbers.{product_le}
+use Rattle.lists.specs.Capacity.{max_capacity}
+use Rattle.hints.specs.Scratch.{max_cost}
+use Rattle.pairing.proofs.pairs.goes_low.Goals as goal
+
+pub overflow_mul-result : goal.overflow_mul-result
+overflow_mul-result c = omega (arith, product_le _ _ max_cost max_capacity c.bounded.ensures c.requires.0)
+
+pub overflow_mul-result-2 : goal.overflow_mul-result-2
+overflow_mul-result-2 c = omega (arith, product_le _ _ max_cost max_capacity c.bounded-2.ensures c.requires.1)

@@ -1,0 +1,16 @@
+-- `pairing::pairs::join_all` meets its contract. The invariant: the pairs of the rows before the next of each side are settled.
+use Prim.Native.Nat.{◌+◌, ◌-◌}
+use mathlib.Core.Path.{◌≡◌}
+use lib.ListN.{length}
+use Rattle.insertion.specs.Filled.{by_sign}
+use Rattle.pairing.proofs.Steps.{PairsDone}
+use Rattle.pairing.proofs.pairs.join_all.Given as goal
+
+abbrev pub invariant-loop-turn : goal.invariant-loop-turn
+invariant-loop-turn l =
+    PairsDone l.ap l.an l.bp l.bn (by_sign l.initial.positives l.initial.negatives) l.initial.turn.listed (by_sign l.positives l.negatives) l.kept l.turn
+    × (length l.kept ≡ length l.initial.kept) × (length l.hints ≡ length l.initial.hints) × (length l.columns ≡ length l.initial.columns)
+
+abbrev pub decreases-loop-turn : goal.decreases-loop-turn
+decreases-loop-turn l =
+    length l.ap + length l.bp - (l.turn.low.at + l.turn.high.at)

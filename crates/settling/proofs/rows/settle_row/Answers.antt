@@ -1,0 +1,23 @@
+-- `settling::rows::settle_row` meets its contract.
+use Prim.Native.Nat.{◌<◌}
+use mathlib.Core.Path.{◌≡◌, subst}
+use mathlib.Core.Bool.{true}
+use Rattle.terms.specs.Term.{inside}
+use Rattle.terms.specs.declared.Term.{Term}
+use Rattle.lists.specs.Scans.{term_at}
+use Rattle.hints.specs.Kept.{kept_at}
+use Rattle.settling.proofs.Growth.{grew_none}
+use Rattle.settling.proofs.Looks.{row-covered}
+use Rattle.settling.proofs.rows.settle_row.Goals as goal
+
+pub returns-then-covers : goal.returns-then-covers
+returns-then-covers c =
+    let x = c.args in
+    let g = c.requires.growing in
+    let found = subst (λ (t : Term). (x.row.hint < x.row.counts.kept) × (inside (kept_at x.kept.now x.row.hint) t ≡ true))
+    c.term_at.ensures (c.covers.ensures c.if-covers.true) in (
+      grew_none g.front,
+      g.keeps,
+      g.room,
+      row-covered (term_at x.ap.now x.an.now x.row.at) x.bp.now x.bn.now x.row.from x.row.hint g.keeps found,
+    )

@@ -12,9 +12,6 @@ use Rattle.text.specs.Write.{table_text, write_text}
 use Rattle.text_writer.specs.Sink.{WriteIs, Wrote}
 use Rattle.text_writer.specs.declared.writer.Written.TheVariants.{Done, Sink}
 use Rattle.text_writer.proofs.writer.write_fitting.Goals as goal
-use Rattle.text_writer.proofs.writer.write_fitting.Lts as lts
-use Rattle.text_writer.proofs.writer.write_fitting.Reads as reads
-use Rattle.text_writer.proofs.writer.write_fitting.Tie as tie
 
 module _ (text sink : List ℕ) (m : ℕ) (e : m ≡ length text) where
   short : length sink < m → WriteIs (Sink m) sink (write_text text sink)
@@ -30,18 +27,12 @@ module _ (text sink : List ℕ) (m : ℕ) (e : m ≡ length text) where
             ∙ ap (λ (z : ℕ). text ++ drop z sink) (zero-add (length text)),
       )
 
-abbrev text_of : lts.Start tie.the-claims reads.Pre reads.Post → List ℕ
-text_of s = table_text s.args.variables s.args.n s.args.words.now
-
 pub returns-then-sink-need : goal.returns-then-sink-need
 returns-then-sink-need c =
-    let s = c.before.before.before.before in
-    short (text_of s.before) c.args.sink.now c.measure-need.result c.measure-need.ensures c.if-sink-need.true
+    short (table_text c.args.variables c.args.n c.args.words.now) c.args.sink.now c.measure-need.result
+    c.measure-need.ensures c.if-sink-need.true
 
 pub returns : goal.returns
 returns c =
-    let at-put-table = c.before.before in
-    let at-if1 = at-put-table.before.before in
-    let s = at-if1.before.before.before.before in
-    done (text_of s.before) c.args.sink.now c.measure-need.result c.measure-need.ensures c.if-sink-need.false _
-    c.put_table.result c.put_table.ensures
+    done (table_text c.args.variables c.args.n c.args.words.now) c.args.sink.now c.measure-need.result
+    c.measure-need.ensures c.if-sink-need.false _ c.put_table.result c.put_table.ensures

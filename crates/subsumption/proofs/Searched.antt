@@ -21,7 +21,6 @@ use Rattle.insertion.proofs.Inserted.{entry-terms, absent}
 use Rattle.subsumption.specs.Ahead.{ahead, OverSome, Searchable, FoundBefore, FoundInside}
 use Rattle.subsumption.specs.declared.Found.{Found}
 use Rattle.subsumption.specs.declared.Found.TheVariants.{Nowhere}
-use Rattle.subsumption.specs.declared.Found.TheVariants as Found
 use Rattle.subsumption.proofs.Ahead.{inside-ahead}
 
 -- a test that fails at every place fails in the list

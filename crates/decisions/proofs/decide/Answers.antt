@@ -1,18 +1,15 @@
 -- `decisions::decide` meets its contract: one side, the other, and all pairs.
 use Prim.Native.Nat.{ℕ}
-use mathlib.Core.Path.{◌≡◌, subst, ◌∙◌}
+use mathlib.Core.Path.{subst, ◌∙◌}
 use mathlib.Core.Bool.{Bool, true, false}
 use mathlib.Core.List.{List}
-use lib.ListN.{length}
 use Rattle.terms.specs.Term.{terms_of}
 use Rattle.terms.specs.declared.Term.{Term}
 use Rattle.insertion.specs.Filled.{by_sign}
-use Rattle.decisions.specs.Extended.{Extending, side_terms, ListsSide}
+use Rattle.decisions.specs.Extended.{side_terms, ListsSide}
 use Rattle.settling.specs.Growth.{Grown}
 use Rattle.settling.specs.Sides.{least_joins, AllSettled}
 use Rattle.settling.specs.declared.counts.Counts.{Counts}
-use Rattle.settling.specs.declared.counts.Growth.{Growth}
-use Rattle.settling.specs.declared.counts.Growth.TheVariants.{To, Over}
 use Rattle.decisions.proofs.Whole.{first, second, third, over₁, over₂, over₃, ends}
 use Rattle.decisions.proofs.decide.Goals as goal
 

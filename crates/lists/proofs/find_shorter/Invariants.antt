@@ -1,7 +1,7 @@
 -- `lists::find_shorter` meets its contract. Both loops' invariant: nothing is found yet, and the search in what is left finds
 -- what the whole search finds.
 use Prim.Native.Nat.{◌-◌, ◌≤◌}
-use mathlib.Core.Path.{◌≡◌, ap}
+use mathlib.Core.Path.{◌≡◌}
 use lib.ListN.{length, drop}
 use Rattle.terms.specs.Lists.{any}
 use Rattle.terms.specs.Term.{terms_of}

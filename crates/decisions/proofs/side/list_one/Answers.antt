@@ -9,8 +9,6 @@ use Rattle.terms.specs.Term.{extend}
 use Rattle.terms.specs.declared.Term.{Term}
 use Rattle.lists.specs.Scans.{term_at}
 use Rattle.insertion.specs.Filled.{by_sign, held, Filled}
-use Rattle.insertion.specs.declared.Kept.{Kept}
-use Rattle.insertion.specs.declared.Kept.TheVariants.{Count, Full}
 use Rattle.subsumption.specs.Ahead.{FoundInside}
 use Rattle.subsumption.specs.declared.Found.{Found}
 use Rattle.settling.specs.Growth.{Keeps}

@@ -1,9 +1,6 @@
-use Prim.Native.Nat.{ℕ, ◌<◌}
-use mathlib.Core.Path.{◌≡◌, refl, sym, subst, ◌∙◌}
-use mathlib.Core.Bool.{Bool, true, false}
-use mathlib.Core.List.{List}
+use mathlib.Core.Path.{refl, sym, subst, ◌∙◌}
+use mathlib.Core.Bool.{true, false}
 use native.Mathlib.Omega.{arith}
-use lib.ListN.{length}
 use Rattle.terms.specs.Term.{IsTerm, terms_of}
 use Rattle.terms.specs.declared.Term.{Term}
 use Rattle.lists.specs.Scans.{term_at}
@@ -12,8 +9,6 @@ use Rattle.subsumption.specs.Ahead.{FoundInside}
 use Rattle.decisions.specs.Extended.{side_terms, ListsOne}
 use Rattle.settling.specs.Growth.{Grown}
 use Rattle.settling.specs.Sides.{least_joins}
-use Rattle.settling.specs.declared.counts.Growth.{Growth}
-use Rattle.settling.specs.declared.counts.Growth.TheVariants.{To, Over}
 use Rattle.settling.proofs.Down.{low-in}
 use Rattle.settling.proofs.Least.{low-terms, high-terms}
 use Rattle.decisions.proofs.OneSide.{side-start, side-length, side-extending, side-next, side-over, side-end}

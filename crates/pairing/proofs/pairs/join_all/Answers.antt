@@ -1,14 +1,9 @@
-use Prim.Native.Nat.{ℕ}
-use mathlib.Core.Path.{◌≡◌, refl, subst, ◌∙◌}
-use mathlib.Core.Bool.{Bool, true, false}
+use mathlib.Core.Path.{refl, subst, ◌∙◌}
+use mathlib.Core.Bool.{true, false}
 use mathlib.Core.Logic.{inl, inr}
-use mathlib.Core.List.{List}
 use native.Mathlib.Omega.{arith}
-use lib.ListN.{length}
 use Rattle.insertion.specs.Filled.{by_sign}
 use Rattle.pairing.specs.Pairs.{Turns}
-use Rattle.pairing.specs.declared.pairs.Turned.{Turned}
-use Rattle.pairing.specs.declared.pairs.Turned.TheVariants.{Next, Over}
 use Rattle.pairing.proofs.Steps.{pairs_start, pairs-length, pairs-left, pairs_next, pairs-over, pairs_end}
 use Rattle.pairing.proofs.pairs.join_all.Goals as goal
 

@@ -1,7 +1,5 @@
 -- `pairing::pairs::step_high` meets its contract.
-use Prim.Native.Nat.{ℕ}
-use mathlib.Core.Path.{◌≡◌, subst}
-use mathlib.Core.Bool.{Bool}
+use mathlib.Core.Path.{subst}
 use mathlib.Core.List.{List}
 use native.Mathlib.Nat.{le_of_lt}
 use native.Mathlib.Omega.{arith}
@@ -12,8 +10,6 @@ use Rattle.lists.specs.Scans.{term_at}
 use Rattle.insertion.specs.Filled.{by_sign}
 use Rattle.settling.specs.Growth.{Grown}
 use Rattle.settling.specs.Sides.{least_joins, SettledFrom}
-use Rattle.settling.specs.declared.counts.Growth.{Growth}
-use Rattle.settling.specs.declared.counts.Growth.TheVariants.{To, Over}
 use Rattle.settling.proofs.Grows.{recounted}
 use Rattle.settling.proofs.Least.{least-turned}
 use Rattle.pairing.proofs.Steps.{stepped-high, growing-turned, grew-wider, over-wider, kept-wider}

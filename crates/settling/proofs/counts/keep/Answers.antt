@@ -1,13 +1,9 @@
 -- `settling::counts::keep` meets its contract.
-use mathlib.Core.Path.{◌≡◌, subst}
-use mathlib.Core.Bool.{Bool}
-use mathlib.Core.List.{List, []}
-use Prim.Native.Nat.{ℕ}
+use mathlib.Core.Path.{subst}
+use mathlib.Core.List.{[]}
 use Rattle.terms.specs.Lists.{insert}
 use Rattle.terms.specs.Order.{before}
 use Rattle.insertion.specs.Filled.{by_sign, held, Filled}
-use Rattle.insertion.specs.declared.Kept.{Kept}
-use Rattle.insertion.specs.declared.Kept.TheVariants.{Count, Full}
 use Rattle.settling.proofs.KeptTerms.{still-none, still-more}
 use Rattle.settling.proofs.counts.keep.Goals as goal
 

@@ -1,6 +1,6 @@
 use Prim.Native.Nat.{ℕ}
-use mathlib.Core.Path.{◌≡◌, refl, sym, ap, subst, ◌∙◌}
-use mathlib.Core.Bool.{Bool, true, false}
+use mathlib.Core.Path.{refl, sym, subst, ◌∙◌}
+use mathlib.Core.Bool.{true, false}
 use mathlib.Core.List.{List}
 use native.Mathlib.Omega.{arith}
 use lib.ListN.{length, length-replicate}
@@ -12,8 +12,6 @@ use Rattle.insertion.specs.Filled.{by_sign}
 use Rattle.settling.specs.Growth.{Grown}
 use Rattle.settling.specs.Sides.{least_joins, Settled}
 use Rattle.settling.specs.Tries.{Tries}
-use Rattle.settling.specs.declared.counts.Growth.{Growth}
-use Rattle.settling.specs.declared.counts.Growth.TheVariants.{To, Over}
 use Rattle.settling.proofs.Grows.{so-far-start, so-far-length, so-far-growing, so-far-next, so-far-over, so-far-end}
 use Rattle.settling.proofs.Looks.{tried-settled}
 use Rattle.settling.proofs.rows.join_row.Goals as goal

@@ -1,6 +1,6 @@
 -- `settling::rows::join_row` meets its contract. The invariant: the pairs of the row up to j are settled.
 use Prim.Native.Nat.{◌-◌}
-use mathlib.Core.Path.{◌≡◌, ap}
+use mathlib.Core.Path.{◌≡◌}
 use lib.ListN.{length}
 use Rattle.lists.specs.Scans.{term_at}
 use Rattle.hints.specs.Scratch.{max_words}

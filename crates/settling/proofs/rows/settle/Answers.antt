@@ -1,5 +1,5 @@
 -- `settling::rows::settle` meets its contract.
-use mathlib.Core.Path.{◌≡◌, sym, ap₂, subst, ◌∙◌}
+use mathlib.Core.Path.{sym, ap₂, subst, ◌∙◌}
 use mathlib.Core.Logic.{inr}
 use mathlib.Core.List.{List, Memᴰ}
 use Rattle.terms.specs.Joins.{joins}

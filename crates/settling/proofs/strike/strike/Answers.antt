@@ -6,7 +6,6 @@ use native.Mathlib.Omega.{arith}
 use Rattle.terms.specs.Joins.{joins}
 use Rattle.terms.specs.Term.{literals, join, inside, terms_of}
 use Rattle.terms.specs.declared.Term.{Term}
-use Rattle.lists.specs.Scans.{term_at}
 use Rattle.settling.proofs.Down.{starts, ends, first-there, second-there, next-join, next-less, next-inside}
 use Rattle.settling.proofs.strike.strike.Goals as goal
 

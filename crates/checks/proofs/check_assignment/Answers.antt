@@ -11,7 +11,7 @@ use Rattle.checks.proofs.check_assignment.Goals as goal
 
 pub is_within-requires : goal.is_within-requires
 is_within-requires c =
-    let e = (goes_on c.check.ensures c.in-Accepted.is) in
+    let e = goes_on c.check.ensures c.in-Accepted.is in
     let k : c.args.variables ≤ max_variables =
     variables-le (accepted-e _ _ _ e) in
     omega arith

@@ -11,7 +11,7 @@ use Rattle.checks.proofs.check_term.Goals as goal
 
 pub is_term-requires : goal.is_term-requires
 is_term-requires c =
-    let e = (goes_on c.check.ensures c.in-Accepted.is) in
+    let e = goes_on c.check.ensures c.in-Accepted.is in
     let k : c.args.variables ≤ max_variables =
     variables-le (accepted-e _ _ _ e) in
     omega arith

@@ -65,7 +65,8 @@ returns-in_default-list_side c =
     let then₂ : Bool → List ℕ = by_sign c.list_side-2.new.positives c.list_side-2.new.negatives in
     let kept₂ : List ℕ = c.list_side-2.new.kept in
     let told₂ = subst
-    (Grown (side_terms x.x true high low) (least_joins high low) (ListsSide x.x true high low) then₁ counts₁.listed then₂ kept₂) c.in_default-list_side.is
+    (Grown (side_terms x.x true high low) (least_joins high low) (ListsSide x.x true high low)
+    then₁ counts₁.listed then₂ kept₂) c.in_default-list_side.is
     c.list_side-2.ensures in
     over₂ c.requires.decided_at begun then₁ kept₁ counts₁ told₁ told₂
 
@@ -86,7 +87,8 @@ join_all-requires c =
     let kept₂ : List ℕ = c.list_side-2.new.kept in
     let counts₂ : Counts = c.in-To-list_side.d in
     let told₂ = subst
-    (Grown (side_terms x.x true high low) (least_joins high low) (ListsSide x.x true high low) then₁ counts₁.listed then₂ kept₂) c.in-To-list_side.is
+    (Grown (side_terms x.x true high low) (least_joins high low) (ListsSide x.x true high low)
+    then₁ counts₁.listed then₂ kept₂) c.in-To-list_side.is
     c.list_side-2.ensures in
     record {
       growing = third c.requires.decided_at begun then₁ kept₁ counts₁ told₁ then₂ kept₂ counts₂
@@ -127,7 +129,8 @@ returns-in_default-join_all c =
     let kept₂ : List ℕ = c.list_side-2.new.kept in
     let counts₂ : Counts = c.in-To-list_side.d in
     let told₂ = subst
-    (Grown (side_terms x.x true high low) (least_joins high low) (ListsSide x.x true high low) then₁ counts₁.listed then₂ kept₂) c.in-To-list_side.is
+    (Grown (side_terms x.x true high low) (least_joins high low) (ListsSide x.x true high low)
+    then₁ counts₁.listed then₂ kept₂) c.in-To-list_side.is
     c.list_side-2.ensures in
     let then₃ : Bool → List ℕ = by_sign c.join_all.new.positives c.join_all.new.negatives in
     let told₃ = subst
@@ -169,7 +172,8 @@ returns c =
     let kept₂ : List ℕ = c.list_side-2.new.kept in
     let counts₂ : Counts = c.in-To-list_side.d in
     let told₂ = subst
-    (Grown (side_terms x.x true high low) (least_joins high low) (ListsSide x.x true high low) then₁ counts₁.listed then₂ kept₂) c.in-To-list_side.is
+    (Grown (side_terms x.x true high low) (least_joins high low) (ListsSide x.x true high low)
+    then₁ counts₁.listed then₂ kept₂) c.in-To-list_side.is
     c.list_side-2.ensures in
     let then₃ : Bool → List ℕ = by_sign c.join_all.new.positives c.join_all.new.negatives in
     let told₃ = subst

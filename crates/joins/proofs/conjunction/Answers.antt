@@ -27,9 +27,11 @@ join_each-requires c =
     let all : List Term = all_made m x.bp.now x.bn.now first 0 in
     let evens : Even first = even x.positives.now x.negatives.now c.requires.negatives_len in
     let sizes : (b : Bool) → length (now b) ≡ length (first b) =
-    turn-length m x.bp.now x.bn.now c.requires.an_len.1 all first now evens c.loop-k.count c.loop-k.k c.loop-k.invariant in
+    turn-length m x.bp.now x.bn.now c.requires.an_len.1 all first now evens
+    c.loop-k.count c.loop-k.k c.loop-k.invariant in
     let fits : c.loop-k.count ≤ length c.loop-k.positives =
-    turn-fits m x.bp.now x.bn.now c.requires.an_len.1 all first now evens c.loop-k.count c.loop-k.k c.loop-k.invariant in
+    turn-fits m x.bp.now x.bn.now c.requires.an_len.1 all first now evens
+    c.loop-k.count c.loop-k.k c.loop-k.invariant in
     let same : length c.loop-k.negatives ≡ length c.loop-k.positives = sizes false ∙ evens false ∙ sym (sizes true) in
     record {
       start_in_bounds = (fits, same, c.loop-k.invariant.rising);
@@ -45,7 +47,8 @@ shape_of-positives-in_default c =
     let all : List Term = all_made m x.bp.now x.bn.now first 0 in
     let evens : Even first = even x.positives.now x.negatives.now c.requires.negatives_len in
     let sizes : (b : Bool) → length (now b) ≡ length (first b) =
-    turn-length m x.bp.now x.bn.now c.requires.an_len.1 all first now evens c.loop-k.count c.loop-k.k c.loop-k.invariant in
+    turn-length m x.bp.now x.bn.now c.requires.an_len.1 all first now evens
+    c.loop-k.count c.loop-k.k c.loop-k.invariant in
     c.join_each.auto.positives ∙ sizes true
 
 pub shape_of-negatives-in_default : goal.shape_of-negatives-in_default
@@ -57,7 +60,8 @@ shape_of-negatives-in_default c =
     let all : List Term = all_made m x.bp.now x.bn.now first 0 in
     let evens : Even first = even x.positives.now x.negatives.now c.requires.negatives_len in
     let sizes : (b : Bool) → length (now b) ≡ length (first b) =
-    turn-length m x.bp.now x.bn.now c.requires.an_len.1 all first now evens c.loop-k.count c.loop-k.k c.loop-k.invariant in
+    turn-length m x.bp.now x.bn.now c.requires.an_len.1 all first now evens
+    c.loop-k.count c.loop-k.k c.loop-k.invariant in
     c.join_each.auto.negatives ∙ sizes false
 
 pub returns-in_default : goal.returns-in_default
@@ -69,7 +73,8 @@ returns-in_default c =
     let all : List Term = all_made m x.bp.now x.bn.now first 0 in
     let evens : Even first = even x.positives.now x.negatives.now c.requires.negatives_len in
     let then : Bool → List ℕ = by_sign c.join_each.new.positives c.join_each.new.negatives in
-    turn-full m x.bp.now x.bn.now c.requires.an_len.1 all first now evens c.loop-k.count c.loop-k.k c.loop-k.invariant c.loop-k-test.true then then
+    turn-full m x.bp.now x.bn.now c.requires.an_len.1 all first now evens
+    c.loop-k.count c.loop-k.k c.loop-k.invariant c.loop-k-test.true then then
     (subst (Added (m.one (term_at x.bp.now x.bn.now c.loop-k.k)) now c.loop-k.count then) c.in_default.is
     (subst (λ (t : Term). Added (m.one t) now c.loop-k.count then c.join_each.result) c.term_at-t.ensures c.join_each.ensures))
 
@@ -82,7 +87,8 @@ loop-k-preserved c =
     let all : List Term = all_made m x.bp.now x.bn.now first 0 in
     let evens : Even first = even x.positives.now x.negatives.now c.requires.negatives_len in
     let then : Bool → List ℕ = by_sign c.join_each.new.positives c.join_each.new.negatives in
-    turn-next m x.bp.now x.bn.now c.requires.an_len.1 all first now evens c.loop-k.count c.loop-k.k c.loop-k.invariant c.loop-k-test.true then c.in-Count.c
+    turn-next m x.bp.now x.bn.now c.requires.an_len.1 all first now evens
+    c.loop-k.count c.loop-k.k c.loop-k.invariant c.loop-k-test.true then c.in-Count.c
     (subst (Added (m.one (term_at x.bp.now x.bn.now c.loop-k.k)) now c.loop-k.count then) c.in-Count.is
     (subst (λ (t : Term). Added (m.one t) now c.loop-k.count then c.join_each.result) c.term_at-t.ensures c.join_each.ensures))
 
@@ -95,7 +101,8 @@ shape_of-positives c =
     let all : List Term = all_made m x.bp.now x.bn.now first 0 in
     let evens : Even first = even x.positives.now x.negatives.now c.requires.negatives_len in
     let sizes : (b : Bool) → length (now b) ≡ length (first b) =
-    turn-length m x.bp.now x.bn.now c.requires.an_len.1 all first now evens c.loop-k.count c.loop-k.k c.loop-k.invariant in
+    turn-length m x.bp.now x.bn.now c.requires.an_len.1 all first now evens
+    c.loop-k.count c.loop-k.k c.loop-k.invariant in
     sizes true
 
 pub shape_of-negatives : goal.shape_of-negatives
@@ -107,7 +114,8 @@ shape_of-negatives c =
     let all : List Term = all_made m x.bp.now x.bn.now first 0 in
     let evens : Even first = even x.positives.now x.negatives.now c.requires.negatives_len in
     let sizes : (b : Bool) → length (now b) ≡ length (first b) =
-    turn-length m x.bp.now x.bn.now c.requires.an_len.1 all first now evens c.loop-k.count c.loop-k.k c.loop-k.invariant in
+    turn-length m x.bp.now x.bn.now c.requires.an_len.1 all first now evens
+    c.loop-k.count c.loop-k.k c.loop-k.invariant in
     sizes false
 
 pub returns : goal.returns
@@ -118,4 +126,5 @@ returns c =
     let now : Bool → List ℕ = by_sign c.loop-k.positives c.loop-k.negatives in
     let all : List Term = all_made m x.bp.now x.bn.now first 0 in
     let evens : Even first = even x.positives.now x.negatives.now c.requires.negatives_len in
-    turn_end m x.bp.now x.bn.now c.requires.an_len.1 all first now evens c.loop-k.count c.loop-k.k c.loop-k.invariant c.loop-k-test.false
+    turn_end m x.bp.now x.bn.now c.requires.an_len.1 all first now evens
+    c.loop-k.count c.loop-k.k c.loop-k.invariant c.loop-k-test.false

@@ -10,7 +10,8 @@ use Rattle.joins.proofs.conjunction.Given as goal
 abbrev pub invariant-loop-k : goal.invariant-loop-k
 invariant-loop-k l =
     let m : Steps = joining_all (terms_of l.ap l.an) in
-    Turn m l.bp l.bn (all_made m l.bp l.bn (by_sign l.initial.positives l.initial.negatives) 0) (by_sign l.initial.positives l.initial.negatives) (by_sign l.positives l.negatives) l.count l.k
+    let first = by_sign l.initial.positives l.initial.negatives in
+    Turn m l.bp l.bn (all_made m l.bp l.bn first 0) first (by_sign l.positives l.negatives) l.count l.k
 
 abbrev pub decreases-loop-k : goal.decreases-loop-k
 decreases-loop-k l = length l.bp - l.k

@@ -26,9 +26,11 @@ add_join-requires c =
     let all : List Term = all_made m x.lp.now x.ln.now first x.start in
     let evens : Even first = even x.positives.now x.negatives.now c.requires.start_in_bounds.1 in
     let sizes : (b : Bool) → length (now b) ≡ length (first b) =
-    turn-length m x.lp.now x.ln.now c.requires.ln_len all first now evens c.loop-k.count c.loop-k.k c.loop-k.invariant in
+    turn-length m x.lp.now x.ln.now c.requires.ln_len all first now evens
+    c.loop-k.count c.loop-k.k c.loop-k.invariant in
     let fits : c.loop-k.count ≤ length c.loop-k.positives =
-    turn-fits m x.lp.now x.ln.now c.requires.ln_len all first now evens c.loop-k.count c.loop-k.k c.loop-k.invariant in
+    turn-fits m x.lp.now x.ln.now c.requires.ln_len all first now evens
+    c.loop-k.count c.loop-k.k c.loop-k.invariant in
     let same : length c.loop-k.negatives ≡ length c.loop-k.positives = sizes false ∙ evens false ∙ sym (sizes true) in
     (fits, same, c.loop-k.invariant.rising)
 
@@ -41,7 +43,8 @@ shape_of-positives-in_default c =
     let all : List Term = all_made m x.lp.now x.ln.now first x.start in
     let evens : Even first = even x.positives.now x.negatives.now c.requires.start_in_bounds.1 in
     let sizes : (b : Bool) → length (now b) ≡ length (first b) =
-    turn-length m x.lp.now x.ln.now c.requires.ln_len all first now evens c.loop-k.count c.loop-k.k c.loop-k.invariant in
+    turn-length m x.lp.now x.ln.now c.requires.ln_len all first now evens
+    c.loop-k.count c.loop-k.k c.loop-k.invariant in
     c.add_join.auto.positives ∙ sizes true
 
 pub shape_of-negatives-in_default : goal.shape_of-negatives-in_default
@@ -53,7 +56,8 @@ shape_of-negatives-in_default c =
     let all : List Term = all_made m x.lp.now x.ln.now first x.start in
     let evens : Even first = even x.positives.now x.negatives.now c.requires.start_in_bounds.1 in
     let sizes : (b : Bool) → length (now b) ≡ length (first b) =
-    turn-length m x.lp.now x.ln.now c.requires.ln_len all first now evens c.loop-k.count c.loop-k.k c.loop-k.invariant in
+    turn-length m x.lp.now x.ln.now c.requires.ln_len all first now evens
+    c.loop-k.count c.loop-k.k c.loop-k.invariant in
     c.add_join.auto.negatives ∙ sizes false
 
 pub returns-in_default : goal.returns-in_default
@@ -65,7 +69,8 @@ returns-in_default c =
     let all : List Term = all_made m x.lp.now x.ln.now first x.start in
     let evens : Even first = even x.positives.now x.negatives.now c.requires.start_in_bounds.1 in
     let then : Bool → List ℕ = by_sign c.add_join.new.positives c.add_join.new.negatives in
-    turn-full m x.lp.now x.ln.now c.requires.ln_len all first now evens c.loop-k.count c.loop-k.k c.loop-k.invariant c.loop-k-test.true then then
+    turn-full m x.lp.now x.ln.now c.requires.ln_len all first now evens
+    c.loop-k.count c.loop-k.k c.loop-k.invariant c.loop-k-test.true then then
     (subst (Added (m.one (term_at x.lp.now x.ln.now c.loop-k.k)) now c.loop-k.count then) c.in_default.is
     (subst (λ (t : Term). Added (m.one t) now c.loop-k.count then c.add_join.result) c.term_at-u.ensures c.add_join.ensures))
 
@@ -78,7 +83,8 @@ loop-k-preserved c =
     let all : List Term = all_made m x.lp.now x.ln.now first x.start in
     let evens : Even first = even x.positives.now x.negatives.now c.requires.start_in_bounds.1 in
     let then : Bool → List ℕ = by_sign c.add_join.new.positives c.add_join.new.negatives in
-    turn-next m x.lp.now x.ln.now c.requires.ln_len all first now evens c.loop-k.count c.loop-k.k c.loop-k.invariant c.loop-k-test.true then c.in-Count.c
+    turn-next m x.lp.now x.ln.now c.requires.ln_len all first now evens
+    c.loop-k.count c.loop-k.k c.loop-k.invariant c.loop-k-test.true then c.in-Count.c
     (subst (Added (m.one (term_at x.lp.now x.ln.now c.loop-k.k)) now c.loop-k.count then) c.in-Count.is
     (subst (λ (t : Term). Added (m.one t) now c.loop-k.count then c.add_join.result) c.term_at-u.ensures c.add_join.ensures))
 
@@ -91,7 +97,8 @@ shape_of-positives c =
     let all : List Term = all_made m x.lp.now x.ln.now first x.start in
     let evens : Even first = even x.positives.now x.negatives.now c.requires.start_in_bounds.1 in
     let sizes : (b : Bool) → length (now b) ≡ length (first b) =
-    turn-length m x.lp.now x.ln.now c.requires.ln_len all first now evens c.loop-k.count c.loop-k.k c.loop-k.invariant in
+    turn-length m x.lp.now x.ln.now c.requires.ln_len all first now evens
+    c.loop-k.count c.loop-k.k c.loop-k.invariant in
     sizes true
 
 pub shape_of-negatives : goal.shape_of-negatives
@@ -103,7 +110,8 @@ shape_of-negatives c =
     let all : List Term = all_made m x.lp.now x.ln.now first x.start in
     let evens : Even first = even x.positives.now x.negatives.now c.requires.start_in_bounds.1 in
     let sizes : (b : Bool) → length (now b) ≡ length (first b) =
-    turn-length m x.lp.now x.ln.now c.requires.ln_len all first now evens c.loop-k.count c.loop-k.k c.loop-k.invariant in
+    turn-length m x.lp.now x.ln.now c.requires.ln_len all first now evens
+    c.loop-k.count c.loop-k.k c.loop-k.invariant in
     sizes false
 
 pub returns : goal.returns
@@ -114,4 +122,5 @@ returns c =
     let now : Bool → List ℕ = by_sign c.loop-k.positives c.loop-k.negatives in
     let all : List Term = all_made m x.lp.now x.ln.now first x.start in
     let evens : Even first = even x.positives.now x.negatives.now c.requires.start_in_bounds.1 in
-    turn_end m x.lp.now x.ln.now c.requires.ln_len all first now evens c.loop-k.count c.loop-k.k c.loop-k.invariant c.loop-k-test.false
+    turn_end m x.lp.now x.ln.now c.requires.ln_len all first now evens
+    c.loop-k.count c.loop-k.k c.loop-k.invariant c.loop-k-test.false

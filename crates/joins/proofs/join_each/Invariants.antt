@@ -9,7 +9,8 @@ use Rattle.joins.proofs.join_each.Given as goal
 abbrev pub invariant-loop-k : goal.invariant-loop-k
 invariant-loop-k l =
     let m : Steps = joining_one l.t in
-    Turn m l.lp l.ln (all_made m l.lp l.ln (by_sign l.initial.positives l.initial.negatives) l.start) (by_sign l.initial.positives l.initial.negatives) (by_sign l.positives l.negatives) l.count l.k
+    let first = by_sign l.initial.positives l.initial.negatives in
+    Turn m l.lp l.ln (all_made m l.lp l.ln first l.start) first (by_sign l.positives l.negatives) l.count l.k
 
 abbrev pub decreases-loop-k : goal.decreases-loop-k
 decreases-loop-k l = length l.lp - l.k

@@ -18,29 +18,32 @@ loop-i-init c = (
 )
 
 pub offset_bounds-measured-i : goal.offset_bounds-measured-i
-offset_bounds-measured-i c = let k = lt_of_lt_of_le (c.requires c.loop-i.i c.loop-i-test.true).0 (in-variables (measurements c.args.measured.now c.args.lows.now c.args.highs.now c.args.thresholds.now)) in search rules
+offset_bounds-measured-i c =
+    let k = lt_of_lt_of_le (c.requires c.loop-i.i c.loop-i-test.true).0 (in-variables (measurements _ _ _ _)) in search rules
 
 pub bounds-measured-i : goal.bounds-measured-i
-bounds-measured-i c = lt_of_lt_of_le (c.requires c.loop-i.i c.loop-i-test.true).0 (in-variables (measurements c.args.measured.now c.args.lows.now c.args.highs.now c.args.thresholds.now))
+bounds-measured-i c = lt_of_lt_of_le (c.requires c.loop-i.i c.loop-i-test.true).0 (in-variables (measurements _ _ _ _))
 
 pub offset_bounds-lows-i : goal.offset_bounds-lows-i
-offset_bounds-lows-i c = let k = lt_of_lt_of_le (c.requires c.loop-i.i c.loop-i-test.true).0 (in-lows (measurements c.args.measured.now c.args.lows.now c.args.highs.now c.args.thresholds.now)) in search rules
+offset_bounds-lows-i c =
+    let k = lt_of_lt_of_le (c.requires c.loop-i.i c.loop-i-test.true).0 (in-lows (measurements _ _ _ _)) in search rules
 
 pub bounds-lows-i : goal.bounds-lows-i
-bounds-lows-i c = lt_of_lt_of_le (c.requires c.loop-i.i c.loop-i-test.true).0 (in-lows (measurements c.args.measured.now c.args.lows.now c.args.highs.now c.args.thresholds.now))
+bounds-lows-i c = lt_of_lt_of_le (c.requires c.loop-i.i c.loop-i-test.true).0 (in-lows (measurements _ _ _ _))
 
 pub offset_bounds-highs-i : goal.offset_bounds-highs-i
-offset_bounds-highs-i c = let k = lt_of_lt_of_le (c.requires c.loop-i.i c.loop-i-test.true).0 (in-highs (measurements c.args.measured.now c.args.lows.now c.args.highs.now c.args.thresholds.now)) in search rules
+offset_bounds-highs-i c =
+    let k = lt_of_lt_of_le (c.requires c.loop-i.i c.loop-i-test.true).0 (in-highs (measurements _ _ _ _)) in search rules
 
 pub bounds-highs-i : goal.bounds-highs-i
-bounds-highs-i c = lt_of_lt_of_le (c.requires c.loop-i.i c.loop-i-test.true).0 (in-highs (measurements c.args.measured.now c.args.lows.now c.args.highs.now c.args.thresholds.now))
+bounds-highs-i c = lt_of_lt_of_le (c.requires c.loop-i.i c.loop-i-test.true).0 (in-highs (measurements _ _ _ _))
 
 pub offset_bounds-thresholds-i : goal.offset_bounds-thresholds-i
 offset_bounds-thresholds-i c =
-    let k = lt_of_lt_of_le (c.requires c.loop-i.i c.loop-i-test.true).0 (in-thresholds (measurements c.args.measured.now c.args.lows.now c.args.highs.now c.args.thresholds.now)) in search rules
+    let k = lt_of_lt_of_le (c.requires c.loop-i.i c.loop-i-test.true).0 (in-thresholds (measurements _ _ _ _)) in search rules
 
 pub bounds-thresholds-i : goal.bounds-thresholds-i
-bounds-thresholds-i c = lt_of_lt_of_le (c.requires c.loop-i.i c.loop-i-test.true).0 (in-thresholds (measurements c.args.measured.now c.args.lows.now c.args.highs.now c.args.thresholds.now))
+bounds-thresholds-i c = lt_of_lt_of_le (c.requires c.loop-i.i c.loop-i-test.true).0 (in-thresholds (measurements _ _ _ _))
 
 pub with_measured-u-requires : goal.with_measured-u-requires
 with_measured-u-requires c =

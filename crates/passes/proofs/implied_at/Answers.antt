@@ -8,32 +8,49 @@ decode_at-node-requires c = readable-words c.args.n c.args.words.now c.requires.
     c.requires.1
 
 pub has_literal-requires : goal.has_literal-requires
-has_literal-requires c = gate-bounds (reading c.requires.0 c.requires.1 c.decode_at-node.ensures) c.in-Literal.is
+has_literal-requires c =
+    let read = reading c.requires.0 c.requires.1 c.decode_at-node.ensures in
+    gate-bounds read c.in-Literal.is
 
 pub bounds-implied-a : goal.bounds-implied-a
-bounds-implied-a c = (gate-bounds (reading c.requires.0 c.requires.1 c.decode_at-node.ensures) c.in-Decision.is).1
+bounds-implied-a c =
+    let read = reading c.requires.0 c.requires.1 c.decode_at-node.ensures in
+    (gate-bounds read c.in-Decision.is).1
 
 pub bounds-implied-b : goal.bounds-implied-b
-bounds-implied-b c = (gate-bounds (reading c.requires.0 c.requires.1 c.decode_at-node.ensures) c.in-Decision.is).2
+bounds-implied-b c =
+    let read = reading c.requires.0 c.requires.1 c.decode_at-node.ensures in
+    (gate-bounds read c.in-Decision.is).2
 
 pub both_sides-requires : goal.both_sides-requires
-both_sides-requires c = (gate-bounds (reading c.requires.0 c.requires.1 c.decode_at-node.ensures) c.in-Decision.is).0
+both_sides-requires c =
+    let read = reading c.requires.0 c.requires.1 c.decode_at-node.ensures in
+    (gate-bounds read c.in-Decision.is).0
 
 pub all_of-requires : goal.all_of-requires
 all_of-requires c = read-bounds (reading c.requires.0 c.requires.1 c.decode_at-node.ensures)
 
 pub returns-in-Constant : goal.returns-in-Constant
-returns-in-Constant c = implied-from (reading c.requires.0 c.requires.1 c.decode_at-node.ensures) c.in-Constant.is c.args.t c.args.implied.now c.requires.2
+returns-in-Constant c =
+    let read = reading c.requires.0 c.requires.1 c.decode_at-node.ensures in
+    implied-from read c.in-Constant.is c.args.t c.args.implied.now c.requires.2
 
 pub returns-in-Literal : goal.returns-in-Literal
-returns-in-Literal c = c.has_literal.ensures ∙ implied-from (reading c.requires.0 c.requires.1 c.decode_at-node.ensures) c.in-Literal.is c.args.t c.args.implied.now c.requires.2
+returns-in-Literal c =
+    let read = reading c.requires.0 c.requires.1 c.decode_at-node.ensures in
+    c.has_literal.ensures ∙ implied-from read c.in-Literal.is c.args.t c.args.implied.now c.requires.2
 
 pub returns-in-Decision : goal.returns-in-Decision
-returns-in-Decision c = c.both_sides.ensures ∙ implied-from (reading c.requires.0 c.requires.1 c.decode_at-node.ensures) c.in-Decision.is c.args.t c.args.implied.now c.requires.2
+returns-in-Decision c =
+    let read = reading c.requires.0 c.requires.1 c.decode_at-node.ensures in
+    c.both_sides.ensures ∙ implied-from read c.in-Decision.is c.args.t c.args.implied.now c.requires.2
 
 pub returns-in-Conjunction : goal.returns-in-Conjunction
 returns-in-Conjunction c =
-    c.all_of.ensures ∙ implied-from (reading c.requires.0 c.requires.1 c.decode_at-node.ensures) c.in-Conjunction.is c.args.t c.args.implied.now c.requires.2
+    let read = reading c.requires.0 c.requires.1 c.decode_at-node.ensures in
+    c.all_of.ensures ∙ implied-from read c.in-Conjunction.is c.args.t c.args.implied.now c.requires.2
 
 pub returns-in-Unknown : goal.returns-in-Unknown
-returns-in-Unknown c = implied-from (reading c.requires.0 c.requires.1 c.decode_at-node.ensures) c.in-Unknown.is c.args.t c.args.implied.now c.requires.2
+returns-in-Unknown c =
+    let read = reading c.requires.0 c.requires.1 c.decode_at-node.ensures in
+    implied-from read c.in-Unknown.is c.args.t c.args.implied.now c.requires.2

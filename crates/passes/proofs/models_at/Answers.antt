@@ -23,22 +23,28 @@ constant_models-requires-in-Literal c = pass-narrow c.requires.model_pass.0
 
 pub average-requires : goal.average-requires
 average-requires c =
+    let read = reading (pass-readable c.requires.model_pass.0) c.requires.model_pass.1 c.decode_at-node.ensures in
     let b = c.in-Literal.sign in (
-      gate-bounds (reading (pass-readable c.requires.model_pass.0) c.requires.model_pass.1 c.decode_at-node.ensures) c.in-Literal.is,
+      gate-bounds read c.in-Literal.is,
       constant-le c.args.variables (not b) _ (pass-narrow c.requires.model_pass.0) c.constant_models-low.ensures,
       constant-le c.args.variables b _ (pass-narrow c.requires.model_pass.0) c.constant_models-in-Literal.ensures,
     )
 
 pub bounds-models-a : goal.bounds-models-a
-bounds-models-a c = (gate-bounds (reading (pass-readable c.requires.model_pass.0) c.requires.model_pass.1 c.decode_at-node.ensures) c.in-Decision.is).1
+bounds-models-a c =
+    let read = reading (pass-readable c.requires.model_pass.0) c.requires.model_pass.1 c.decode_at-node.ensures in
+    (gate-bounds read c.in-Decision.is).1
 
 pub bounds-models-b : goal.bounds-models-b
-bounds-models-b c = (gate-bounds (reading (pass-readable c.requires.model_pass.0) c.requires.model_pass.1 c.decode_at-node.ensures) c.in-Decision.is).2
+bounds-models-b c =
+    let read = reading (pass-readable c.requires.model_pass.0) c.requires.model_pass.1 c.decode_at-node.ensures in
+    (gate-bounds read c.in-Decision.is).2
 
 pub average-requires-in-Decision : goal.average-requires-in-Decision
 average-requires-in-Decision c =
-    let f = gate-fits (reading (pass-readable c.requires.model_pass.0) c.requires.model_pass.1 c.decode_at-node.ensures) c.in-Decision.is in (
-      (gate-bounds (reading (pass-readable c.requires.model_pass.0) c.requires.model_pass.1 c.decode_at-node.ensures) c.in-Decision.is).0,
+    let read = reading (pass-readable c.requires.model_pass.0) c.requires.model_pass.1 c.decode_at-node.ensures in
+    let f = gate-fits read c.in-Decision.is in (
+      (gate-bounds read c.in-Decision.is).0,
       entry-le c.requires.model_pass.0 c.args.i c.requires.model_pass.1 c.args.models.now c.requires.holds _ f.1,
       entry-le c.requires.model_pass.0 c.args.i c.requires.model_pass.1 c.args.models.now c.requires.holds _ f.2,
     )
@@ -54,27 +60,38 @@ product_of-requires c =
     }
 
 pub returns-in-Constant : goal.returns-in-Constant
-returns-in-Constant c = c.constant_models.ensures ∙ models-array c.requires.model_pass.0 c.args.i c.requires.model_pass.1 c.args.models.now c.requires.holds
-    _ (node-is (reading (pass-readable c.requires.model_pass.0) c.requires.model_pass.1 c.decode_at-node.ensures) c.in-Constant.is)
+returns-in-Constant c =
+    let read = reading (pass-readable c.requires.model_pass.0) c.requires.model_pass.1 c.decode_at-node.ensures in
+    c.constant_models.ensures
+    ∙ models-array c.requires.model_pass.0 c.args.i c.requires.model_pass.1 c.args.models.now c.requires.holds
+    _ (node-is read c.in-Constant.is)
 
 pub returns-in-Literal : goal.returns-in-Literal
 returns-in-Literal c =
+    let read = reading (pass-readable c.requires.model_pass.0) c.requires.model_pass.1 c.decode_at-node.ensures in
     let x = c.args in
     c.average.ensures
     ∙ ap₂ (λ (a b : ℕ). cond (has x.t true c.in-Literal.x) b (cond (has x.t false c.in-Literal.x) a ((a + b) / 2)))
     c.constant_models-low.ensures c.constant_models-in-Literal.ensures
     ∙ models-array c.requires.model_pass.0 c.args.i c.requires.model_pass.1 c.args.models.now c.requires.holds
-    _ (node-is (reading (pass-readable c.requires.model_pass.0) c.requires.model_pass.1 c.decode_at-node.ensures) c.in-Literal.is)
+    _ (node-is read c.in-Literal.is)
 
 pub returns-in-Decision : goal.returns-in-Decision
-returns-in-Decision c = c.average-in-Decision.ensures ∙ models-array c.requires.model_pass.0 c.args.i c.requires.model_pass.1 c.args.models.now c.requires.holds
-    _ (node-is (reading (pass-readable c.requires.model_pass.0) c.requires.model_pass.1 c.decode_at-node.ensures) c.in-Decision.is)
+returns-in-Decision c =
+    let read = reading (pass-readable c.requires.model_pass.0) c.requires.model_pass.1 c.decode_at-node.ensures in
+    c.average-in-Decision.ensures
+    ∙ models-array c.requires.model_pass.0 c.args.i c.requires.model_pass.1 c.args.models.now c.requires.holds
+    _ (node-is read c.in-Decision.is)
 
 pub returns-in-Conjunction : goal.returns-in-Conjunction
 returns-in-Conjunction c =
-    c.product_of.ensures ∙ models-array c.requires.model_pass.0 c.args.i c.requires.model_pass.1 c.args.models.now c.requires.holds
-    _ (node-is (reading (pass-readable c.requires.model_pass.0) c.requires.model_pass.1 c.decode_at-node.ensures) c.in-Conjunction.is)
+    let read = reading (pass-readable c.requires.model_pass.0) c.requires.model_pass.1 c.decode_at-node.ensures in
+    c.product_of.ensures
+    ∙ models-array c.requires.model_pass.0 c.args.i c.requires.model_pass.1 c.args.models.now c.requires.holds
+    _ (node-is read c.in-Conjunction.is)
 
 pub returns-in-Unknown : goal.returns-in-Unknown
-returns-in-Unknown c = models-array c.requires.model_pass.0 c.args.i c.requires.model_pass.1 c.args.models.now c.requires.holds
-    _ (node-is (reading (pass-readable c.requires.model_pass.0) c.requires.model_pass.1 c.decode_at-node.ensures) c.in-Unknown.is)
+returns-in-Unknown c =
+    let read = reading (pass-readable c.requires.model_pass.0) c.requires.model_pass.1 c.decode_at-node.ensures in
+    models-array c.requires.model_pass.0 c.args.i c.requires.model_pass.1 c.args.models.now c.requires.holds
+    _ (node-is read c.in-Unknown.is)

@@ -16,50 +16,69 @@ pub has_bit-requires : goal.has_bit-requires
 has_bit-requires c = gate-bounds (reading c.requires.0 c.requires.1 c.decode_at-node.ensures) c.in-Literal.is
 
 pub has_bit-requires-else-sign : goal.has_bit-requires-else-sign
-has_bit-requires-else-sign c = gate-bounds (reading c.requires.0 c.requires.1 c.decode_at-node.ensures) c.in-Literal.is
+has_bit-requires-else-sign c =
+    let read = reading c.requires.0 c.requires.1 c.decode_at-node.ensures in
+    gate-bounds read c.in-Literal.is
 
 pub has_bit-requires-in-Decision : goal.has_bit-requires-in-Decision
-has_bit-requires-in-Decision c = (gate-bounds (reading c.requires.0 c.requires.1 c.decode_at-node.ensures) c.in-Decision.is).0
+has_bit-requires-in-Decision c =
+    let read = reading c.requires.0 c.requires.1 c.decode_at-node.ensures in
+    (gate-bounds read c.in-Decision.is).0
 
 pub bounds-values-b : goal.bounds-values-b
-bounds-values-b c = (gate-bounds (reading c.requires.0 c.requires.1 c.decode_at-node.ensures) c.in-Decision.is).2
+bounds-values-b c =
+    let read = reading c.requires.0 c.requires.1 c.decode_at-node.ensures in
+    (gate-bounds read c.in-Decision.is).2
 
 pub bounds-values-a : goal.bounds-values-a
-bounds-values-a c = (gate-bounds (reading c.requires.0 c.requires.1 c.decode_at-node.ensures) c.in-Decision.is).1
+bounds-values-a c =
+    let read = reading c.requires.0 c.requires.1 c.decode_at-node.ensures in
+    (gate-bounds read c.in-Decision.is).1
 
 pub all_of-requires : goal.all_of-requires
 all_of-requires c = read-bounds (reading c.requires.0 c.requires.1 c.decode_at-node.ensures)
 
 pub returns-in-Constant : goal.returns-in-Constant
-returns-in-Constant c = value-from (reading c.requires.0 c.requires.1 c.decode_at-node.ensures) c.in-Constant.is c.args.s c.args.values.now c.requires.2
+returns-in-Constant c =
+    let read = reading c.requires.0 c.requires.1 c.decode_at-node.ensures in
+    value-from read c.in-Constant.is c.args.s c.args.values.now c.requires.2
 
 pub returns-then-sign : goal.returns-then-sign
 returns-then-sign c =
+    let read = reading c.requires.0 c.requires.1 c.decode_at-node.ensures in
     let s : ℕ = c.args.s in
-    c.has_bit.ensures ∙ sym (ap (λ (b : Bool). signed b (bit s c.in-Literal.x)) c.if-sign.true) ∙ value-from (reading c.requires.0 c.requires.1 c.decode_at-node.ensures) c.in-Literal.is c.args.s c.args.values.now c.requires.2
+    c.has_bit.ensures ∙ sym (ap (λ (b : Bool). signed b (bit s c.in-Literal.x)) c.if-sign.true)
+    ∙ value-from read c.in-Literal.is c.args.s c.args.values.now c.requires.2
 
 pub returns-else-sign : goal.returns-else-sign
 returns-else-sign c =
+    let read = reading c.requires.0 c.requires.1 c.decode_at-node.ensures in
     let s : ℕ = c.args.s in
-    ap not c.has_bit-else-sign.ensures ∙ sym (ap (λ (b : Bool). signed b (bit s c.in-Literal.x)) c.if-sign.false) ∙ value-from (reading c.requires.0 c.requires.1 c.decode_at-node.ensures) c.in-Literal.is c.args.s c.args.values.now c.requires.2
+    ap not c.has_bit-else-sign.ensures ∙ sym (ap (λ (b : Bool). signed b (bit s c.in-Literal.x)) c.if-sign.false)
+    ∙ value-from read c.in-Literal.is c.args.s c.args.values.now c.requires.2
 
 pub returns-then-has_bit : goal.returns-then-has_bit
 returns-then-has_bit c =
+    let read = reading c.requires.0 c.requires.1 c.decode_at-node.ensures in
     let v = c.args.values.now in
     sym (ap (λ (t : Bool). get_or v (cond t c.in-Decision.b c.in-Decision.a) false)
     (sym c.has_bit-in-Decision.ensures ∙ c.if-has_bit.true))
-    ∙ value-from (reading c.requires.0 c.requires.1 c.decode_at-node.ensures) c.in-Decision.is c.args.s c.args.values.now c.requires.2
+    ∙ value-from read c.in-Decision.is c.args.s c.args.values.now c.requires.2
 
 pub returns-else-has_bit : goal.returns-else-has_bit
 returns-else-has_bit c =
+    let read = reading c.requires.0 c.requires.1 c.decode_at-node.ensures in
     let v = c.args.values.now in
     sym (ap (λ (t : Bool). get_or v (cond t c.in-Decision.b c.in-Decision.a) false)
     (sym c.has_bit-in-Decision.ensures ∙ c.if-has_bit.false))
-    ∙ value-from (reading c.requires.0 c.requires.1 c.decode_at-node.ensures) c.in-Decision.is c.args.s c.args.values.now c.requires.2
+    ∙ value-from read c.in-Decision.is c.args.s c.args.values.now c.requires.2
 
 pub returns-in-Conjunction : goal.returns-in-Conjunction
 returns-in-Conjunction c =
-    c.all_of.ensures ∙ value-from (reading c.requires.0 c.requires.1 c.decode_at-node.ensures) c.in-Conjunction.is c.args.s c.args.values.now c.requires.2
+    let read = reading c.requires.0 c.requires.1 c.decode_at-node.ensures in
+    c.all_of.ensures ∙ value-from read c.in-Conjunction.is c.args.s c.args.values.now c.requires.2
 
 pub returns-in-Unknown : goal.returns-in-Unknown
-returns-in-Unknown c = value-from (reading c.requires.0 c.requires.1 c.decode_at-node.ensures) c.in-Unknown.is c.args.s c.args.values.now c.requires.2
+returns-in-Unknown c =
+    let read = reading c.requires.0 c.requires.1 c.decode_at-node.ensures in
+    value-from read c.in-Unknown.is c.args.s c.args.values.now c.requires.2

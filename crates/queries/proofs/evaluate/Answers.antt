@@ -9,7 +9,7 @@ use Rattle.queries.proofs.evaluate.Goals as goal
 
 pub value-requires : goal.value-requires
 value-requires c =
-    let e = (goes_on c.check_assignment.ensures c.in-Accepted.is) in
+    let e = goes_on c.check_assignment.ensures c.in-Accepted.is in
     accepted-readable _ _ _ (assignment-e _ _ _ _ e).0
 
 pub returns-in-Refused : goal.returns-in-Refused

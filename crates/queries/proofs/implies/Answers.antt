@@ -10,7 +10,7 @@ use Rattle.queries.proofs.implies.Goals as goal
 
 pub implied-requires : goal.implied-requires
 implied-requires c =
-    let e = (goes_on c.check_term.ensures c.in-Accepted.is) in accepted-readable _ _ _ (term-e _ _ _ _ e).0
+    let e = goes_on c.check_term.ensures c.in-Accepted.is in accepted-readable _ _ _ (term-e _ _ _ _ e).0
 
 pub returns-in-Refused : goal.returns-in-Refused
 unfolding implicant_test
@@ -19,6 +19,6 @@ returns-in-Refused c = refusal-stands c.check_term.ensures _ c.in-Refused.is
 pub returns-in-Accepted : goal.returns-in-Accepted
 unfolding implicant_test
 returns-in-Accepted c =
-    let e = (goes_on c.check_term.ensures c.in-Accepted.is) in
+    let e = goes_on c.check_term.ensures c.in-Accepted.is in
     let (a, b) = term-e _ _ _ _ e in
     ap answered (c.implied.ensures ∙ implied-circuit _ _ _ a _ b) ∙ after-accepted e _

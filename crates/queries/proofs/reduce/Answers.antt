@@ -15,24 +15,24 @@ use Rattle.queries.proofs.reduce.Goals as goal
 
 pub value-requires : goal.value-requires
 value-requires c =
-    let e = (goes_on c.check_assignment.ensures c.in-Accepted.is) in accepted-readable _ _ _ (assignment-e _ _ _ _ e).0
+    let e = goes_on c.check_assignment.ensures c.in-Accepted.is in accepted-readable _ _ _ (assignment-e _ _ _ _ e).0
 
 pub returns-then-not-value : goal.returns-then-not-value
 unfolding reduction
 returns-then-not-value c =
-    let e = (goes_on c.check_assignment.ensures c.in-Accepted.is) in
+    let e = goes_on c.check_assignment.ensures c.in-Accepted.is in
     test-failed e (answered (reduce c.args.variables (circuit c.args.nodes c.args.words.now)
     (assignment_term c.args.assignment c.args.variables) c.args.variables)) (refused 33 0)
     (sym c.value.ensures ∙ c.if-not-value.true)
 
 pub term_of-all-requires : goal.term_of-all-requires
 term_of-all-requires c =
-    let e = (goes_on c.check_assignment.ensures c.in-Accepted.is) in
+    let e = goes_on c.check_assignment.ensures c.in-Accepted.is in
     accepted-narrow _ _ _ (assignment-e _ _ _ _ e).0
 
 pub reduced-requires : goal.reduced-requires
 reduced-requires c =
-    let e = (goes_on c.check_assignment.ensures c.in-Accepted.is) in (
+    let e = goes_on c.check_assignment.ensures c.in-Accepted.is in (
       (assignment-e _ _ _ _ e).0,
       subst (λ (t : Term). T (is_term c.args.variables t)) (sym c.term_of-all.ensures)
           (assignment-IsTerm c.args.variables c.args.assignment),
@@ -45,7 +45,7 @@ returns-in-Refused c = refusal-stands c.check_assignment.ensures _ c.in-Refused.
 pub returns-else-not-value : goal.returns-else-not-value
 unfolding reduction
 returns-else-not-value c =
-    let e = (goes_on c.check_assignment.ensures c.in-Accepted.is) in
+    let e = goes_on c.check_assignment.ensures c.in-Accepted.is in
     let r : c.reduced.result ≡ (reduce c.args.variables (circuit c.args.nodes c.args.words.now)
     (assignment_term c.args.assignment c.args.variables) c.args.variables) =
     c.reduced.ensures

@@ -10,13 +10,19 @@ decode_at-node-requires c = readable-words c.args.n c.args.words.now c.requires.
     c.requires.1
 
 pub bounds-supports-a : goal.bounds-supports-a
-bounds-supports-a c = (gate-bounds (reading c.requires.0 c.requires.1 c.decode_at-node.ensures) c.in-Decision.is).1
+bounds-supports-a c =
+    let read = reading c.requires.0 c.requires.1 c.decode_at-node.ensures in
+    (gate-bounds read c.in-Decision.is).1
 
 pub has_bit-requires : goal.has_bit-requires
-has_bit-requires c = (gate-bounds (reading c.requires.0 c.requires.1 c.decode_at-node.ensures) c.in-Decision.is).0
+has_bit-requires c =
+    let read = reading c.requires.0 c.requires.1 c.decode_at-node.ensures in
+    (gate-bounds read c.in-Decision.is).0
 
 pub bounds-supports-b : goal.bounds-supports-b
-bounds-supports-b c = (gate-bounds (reading c.requires.0 c.requires.1 c.decode_at-node.ensures) c.in-Decision.is).2
+bounds-supports-b c =
+    let read = reading c.requires.0 c.requires.1 c.decode_at-node.ensures in
+    (gate-bounds read c.in-Decision.is).2
 
 pub has_bit-requires-in-Decision : goal.has_bit-requires-in-Decision
 has_bit-requires-in-Decision c = (gate-bounds (reading c.requires.0 c.requires.1 c.decode_at-node.ensures)
@@ -26,19 +32,27 @@ pub are_disjoint-requires : goal.are_disjoint-requires
 are_disjoint-requires c = read-bounds (reading c.requires.0 c.requires.1 c.decode_at-node.ensures)
 
 pub returns-in-Constant : goal.returns-in-Constant
-returns-in-Constant c = (meets-from (reading c.requires.0 c.requires.1 c.decode_at-node.ensures) c.in-Constant.is c.args.supports.now c.requires.2)
+returns-in-Constant c =
+    let read = reading c.requires.0 c.requires.1 c.decode_at-node.ensures in
+    meets-from read c.in-Constant.is c.args.supports.now c.requires.2
 
 pub returns-in-Literal : goal.returns-in-Literal
-returns-in-Literal c = (meets-from (reading c.requires.0 c.requires.1 c.decode_at-node.ensures) c.in-Literal.is c.args.supports.now c.requires.2)
+returns-in-Literal c =
+    let read = reading c.requires.0 c.requires.1 c.decode_at-node.ensures in
+    meets-from read c.in-Literal.is c.args.supports.now c.requires.2
 
 pub returns-in-Decision : goal.returns-in-Decision
 returns-in-Decision c =
+    let read = reading c.requires.0 c.requires.1 c.decode_at-node.ensures in
     ap₂ ◌||◌ c.has_bit.ensures c.has_bit-in-Decision.ensures
-    ∙ (meets-from (reading c.requires.0 c.requires.1 c.decode_at-node.ensures) c.in-Decision.is c.args.supports.now c.requires.2)
+    ∙ (meets-from read c.in-Decision.is c.args.supports.now c.requires.2)
 
 pub returns-in-Conjunction : goal.returns-in-Conjunction
 returns-in-Conjunction c =
-    ap not c.are_disjoint.ensures ∙ (meets-from (reading c.requires.0 c.requires.1 c.decode_at-node.ensures) c.in-Conjunction.is c.args.supports.now c.requires.2)
+    let read = reading c.requires.0 c.requires.1 c.decode_at-node.ensures in
+    ap not c.are_disjoint.ensures ∙ (meets-from read c.in-Conjunction.is c.args.supports.now c.requires.2)
 
 pub returns-in-Unknown : goal.returns-in-Unknown
-returns-in-Unknown c = (meets-from (reading c.requires.0 c.requires.1 c.decode_at-node.ensures) c.in-Unknown.is c.args.supports.now c.requires.2)
+returns-in-Unknown c =
+    let read = reading c.requires.0 c.requires.1 c.decode_at-node.ensures in
+    meets-from read c.in-Unknown.is c.args.supports.now c.requires.2

@@ -13,13 +13,15 @@ decode_at-node-requires c = readable-words c.args.n c.args.words.now c.requires.
 
 pub is_false-requires : goal.is_false-requires
 is_false-requires c =
-    let f : c.in-Decision.a < c.args.i = (gate-fits (reading c.requires.0 c.requires.1 c.decode_at-node.ensures) c.in-Decision.is).1 in
+    let read = reading c.requires.0 c.requires.1 c.decode_at-node.ensures in
+    let f : c.in-Decision.a < c.args.i = (gate-fits read c.in-Decision.is).1 in
     let b = c.requires.1 in
     readable-words c.args.n c.args.words.now c.requires.0 _ (omega arith)
 
 pub is_false-requires-in-Decision : goal.is_false-requires-in-Decision
 is_false-requires-in-Decision c =
-    let f : c.in-Decision.b < c.args.i = (gate-fits (reading c.requires.0 c.requires.1 c.decode_at-node.ensures) c.in-Decision.is).2 in
+    let read = reading c.requires.0 c.requires.1 c.decode_at-node.ensures in
+    let f : c.in-Decision.b < c.args.i = (gate-fits read c.in-Decision.is).2 in
     let b = c.requires.1 in
     readable-words c.args.n c.args.words.now c.requires.0 _ (omega arith)
 
@@ -30,10 +32,14 @@ has_false-requires c =
     (c.requires.0, record { few = b.few; each = λ k m. let q = b.each k m in omega arith })
 
 pub returns-in-Constant : goal.returns-in-Constant
-returns-in-Constant c = unreduced-from (reading c.requires.0 c.requires.1 c.decode_at-node.ensures) c.in-Constant.is
+returns-in-Constant c =
+    let read = reading c.requires.0 c.requires.1 c.decode_at-node.ensures in
+    unreduced-from read c.in-Constant.is
 
 pub returns-in-Literal : goal.returns-in-Literal
-returns-in-Literal c = unreduced-from (reading c.requires.0 c.requires.1 c.decode_at-node.ensures) c.in-Literal.is
+returns-in-Literal c =
+    let read = reading c.requires.0 c.requires.1 c.decode_at-node.ensures in
+    unreduced-from read c.in-Literal.is
 
 pub returns-in-Decision : goal.returns-in-Decision
 returns-in-Decision c =
@@ -42,7 +48,10 @@ returns-in-Decision c =
 
 pub returns-in-Conjunction : goal.returns-in-Conjunction
 returns-in-Conjunction c =
-    c.has_false.ensures ∙ unreduced-from (reading c.requires.0 c.requires.1 c.decode_at-node.ensures) c.in-Conjunction.is
+    let read = reading c.requires.0 c.requires.1 c.decode_at-node.ensures in
+    c.has_false.ensures ∙ unreduced-from read c.in-Conjunction.is
 
 pub returns-in-Unknown : goal.returns-in-Unknown
-returns-in-Unknown c = unreduced-from (reading c.requires.0 c.requires.1 c.decode_at-node.ensures) c.in-Unknown.is
+returns-in-Unknown c =
+    let read = reading c.requires.0 c.requires.1 c.decode_at-node.ensures in
+    unreduced-from read c.in-Unknown.is

@@ -25,12 +25,13 @@ mark-requires c =
     (c.loop-j.invariant.1, read-bounds (reading c.requires c.loop-j-test.true c.decode_at-node.ensures))
 
 pub loop-j-preserved : goal.loop-j-preserved
-loop-j-preserved c = (
-  search rules,
-  c.mark.ensures.long,
-  marks-next c.args.words.now c.loop-j.j (child_list c.decode_at-node.result.children) c.loop-j.marked _
-      (read-list (reading c.requires c.loop-j-test.true c.decode_at-node.ensures)) c.loop-j.invariant.2 c.mark.ensures,
-)
+loop-j-preserved c =
+    let read = reading c.requires c.loop-j-test.true c.decode_at-node.ensures in (
+      search rules,
+      c.mark.ensures.long,
+      marks-next c.args.words.now c.loop-j.j (child_list c.decode_at-node.result.children) c.loop-j.marked _
+          (read-list read) c.loop-j.invariant.2 c.mark.ensures,
+    )
 
 pub returns : goal.returns
 returns c =

@@ -8,7 +8,8 @@ use Rattle.decisions.proofs.side.list_side.Given as goal
 
 abbrev pub invariant-loop-k : goal.invariant-loop-k
 invariant-loop-k l =
-    SideDone l.literal.variable l.literal.sign l.ap l.an l.bp l.bn (by_sign l.initial.positives l.initial.negatives) l.initial.counts.listed (by_sign l.positives l.negatives)
+    SideDone l.literal.variable l.literal.sign l.ap l.an l.bp l.bn (by_sign l.initial.positives l.initial.negatives)
+    l.initial.counts.listed (by_sign l.positives l.negatives)
     l.kept l.counts l.k
     × (l.end ≤ length l.bp) × (length l.hints ≡ length l.initial.hints) × (length l.kept ≡ length l.initial.kept)
 

@@ -8,7 +8,8 @@ use Rattle.pairing.proofs.pairs.join_all.Given as goal
 
 abbrev pub invariant-loop-turn : goal.invariant-loop-turn
 invariant-loop-turn l =
-    PairsDone l.ap l.an l.bp l.bn (by_sign l.initial.positives l.initial.negatives) l.initial.turn.listed (by_sign l.positives l.negatives) l.kept l.turn
+    PairsDone l.ap l.an l.bp l.bn (by_sign l.initial.positives l.initial.negatives)
+    l.initial.turn.listed (by_sign l.positives l.negatives) l.kept l.turn
     × (length l.kept ≡ length l.initial.kept) × (length l.hints ≡ length l.initial.hints) × (length l.columns ≡ length l.initial.columns)
 
 abbrev pub decreases-loop-turn : goal.decreases-loop-turn

@@ -10,8 +10,10 @@ use Rattle.settling.proofs.rows.join_row.Given as goal
 
 abbrev pub invariant-loop-j : goal.invariant-loop-j
 invariant-loop-j l =
-    SoFar l.ap l.an l.bp l.bn (term_at l.ap l.an l.at) l.initial.j (by_sign l.initial.positives l.initial.negatives) l.initial.counts.listed (by_sign l.positives l.negatives) l.kept l.counts l.j
-    × (length l.kept ≡ length l.initial.kept) × (length l.left ≡ max_words) × (length l.hints ≡ length l.initial.hints) × (length l.columns ≡ length l.initial.columns)
+    SoFar l.ap l.an l.bp l.bn (term_at l.ap l.an l.at) l.initial.j (by_sign l.initial.positives l.initial.negatives)
+    l.initial.counts.listed (by_sign l.positives l.negatives) l.kept l.counts l.j
+    × (length l.kept ≡ length l.initial.kept) × (length l.left ≡ max_words)
+    × (length l.hints ≡ length l.initial.hints) × (length l.columns ≡ length l.initial.columns)
 
 abbrev pub decreases-loop-j : goal.decreases-loop-j
 decreases-loop-j l =

@@ -23,7 +23,8 @@ add_least-requires c =
     let x = c.args in
     let h = c.requires.growing.at in record {
       growing = recounted c.requires.growing x.tried.cost;
-      fact = subst (λ (q : Term). Memᴰ q (joins (terms_of x.ap.now x.an.now) (terms_of x.bp.now x.bn.now))) (sym (c.join-q.ensures ∙ ap₂ join c.term_at.ensures c.term_at-2.ensures))
+      fact = subst (λ (q : Term). Memᴰ q (joins (terms_of x.ap.now x.an.now) (terms_of x.bp.now x.bn.now)))
+          (sym (c.join-q.ensures ∙ ap₂ join c.term_at.ensures c.term_at-2.ensures))
           (joined h.sides _ _ (low-in h x.pair.low c.requires.low_in_bounds.0) (high-in h x.pair.high c.requires.low_in_bounds.1)
           (c.requires.settled.1 c.if-tried.false));
     }

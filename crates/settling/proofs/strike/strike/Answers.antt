@@ -43,4 +43,5 @@ loop-t-preserved c =
     let f = c.find_shorter.ensures in
     let all : List Term = joins (terms_of x.ap.now x.an.now) (terms_of x.bp.now x.bn.now) in
     subst (λ (t : Term). Memᴰ t all × (inside t x.q ≡ true))
-    (sym (c.join-t.ensures ∙ ap₂ join c.term_at.ensures c.term_at-in-At.ensures)) (next-join h _ _ l.invariant.0 _ _ g f, next-inside h _ _ l.invariant.0 _ _ g f _ l.invariant.1)
+    (sym (c.join-t.ensures ∙ ap₂ join c.term_at.ensures c.term_at-in-At.ensures))
+    (next-join h _ _ l.invariant.0 _ _ g f, next-inside h _ _ l.invariant.0 _ _ g f _ l.invariant.1)

@@ -1,5 +1,3 @@
-mod BoundaryWalk
-mod Handed
 mod Placed
 mod Settled
 mod WalkedAnswer

@@ -35,16 +35,14 @@ use text_writer::writer::Written;
 // The version of these functions and their answers: QUELBRIFT_VERSION in the header.
 const VERSION: u32 = 7;
 
-#[unsafe(no_mangle)]
-pub extern "C" fn quelbrift_version() -> u32
+pub fn quelbrift_version() -> u32
     ensures { result ≡ version }
 {
     VERSION
 }
 
 // Reads a circuit text into the words: the numbers of variables and of nodes.
-#[unsafe(no_mangle)]
-pub extern "C" fn quelbrift_read(text: &[u8], words: &mut [u32]) -> Answer
+pub fn quelbrift_read(text: &[u8], words: &mut [u32]) -> Answer
     ensures value { result ≡ answer_of numbers (read_text text.now (length words.old)).answer }
     ensures words_after { words.new ≡ (read_text text.now (length words.old)).words }
 {
@@ -55,13 +53,7 @@ pub extern "C" fn quelbrift_read(text: &[u8], words: &mut [u32]) -> Answer
 }
 
 // Writes a table as text into the sink: the length.
-#[unsafe(no_mangle)]
-pub extern "C" fn quelbrift_write(
-    words: &[u32],
-    variables: u32,
-    nodes: u32,
-    sink: &mut [u8],
-) -> Answer
+pub fn quelbrift_write(words: &[u32], variables: u32, nodes: u32, sink: &mut [u8]) -> Answer
     ensures value { result ≡ answer_of number (write_table variables nodes words.now sink.old).answer }
     ensures sink_after { sink.new ≡ (write_table variables nodes words.now sink.old).sink }
 {
@@ -73,8 +65,7 @@ pub extern "C" fn quelbrift_write(
 }
 
 // The check of a table.
-#[unsafe(no_mangle)]
-pub extern "C" fn quelbrift_check(words: &[u32], variables: u32, nodes: u32) -> Answer
+pub fn quelbrift_check(words: &[u32], variables: u32, nodes: u32) -> Answer
     ensures { result ≡ answer_of nothing (check variables nodes words.now) }
 {
     match checks::check(words, variables, nodes) {
@@ -84,13 +75,7 @@ pub extern "C" fn quelbrift_check(words: &[u32], variables: u32, nodes: u32) -> 
 }
 
 // The verdict: 1 where the assignment satisfies the circuit, else 0.
-#[unsafe(no_mangle)]
-pub extern "C" fn quelbrift_evaluate(
-    words: &[u32],
-    variables: u32,
-    nodes: u32,
-    assignment: u64,
-) -> Answer
+pub fn quelbrift_evaluate(words: &[u32], variables: u32, nodes: u32, assignment: u64) -> Answer
     ensures { result ≡ answer_of truth (evaluation variables nodes words.now assignment) }
 {
     match queries::evaluate(words, variables, nodes, assignment) {
@@ -100,8 +85,7 @@ pub extern "C" fn quelbrift_evaluate(
 }
 
 // The model count.
-#[unsafe(no_mangle)]
-pub extern "C" fn quelbrift_count_models(words: &[u32], variables: u32, nodes: u32) -> Answer
+pub fn quelbrift_count_models(words: &[u32], variables: u32, nodes: u32) -> Answer
     ensures { result ≡ answer_of number (model_count variables nodes words.now) }
 {
     match queries::count_models(words, variables, nodes) {
@@ -121,8 +105,7 @@ fn test(r: Tested) -> Answer
 }
 
 // 1 where the term is an implicant, else 0.
-#[unsafe(no_mangle)]
-pub extern "C" fn quelbrift_implies(
+pub fn quelbrift_implies(
     words: &[u32],
     variables: u32,
     nodes: u32,
@@ -136,8 +119,7 @@ pub extern "C" fn quelbrift_implies(
 }
 
 // 1 where the term is a prime implicant, else 0.
-#[unsafe(no_mangle)]
-pub extern "C" fn quelbrift_is_prime(
+pub fn quelbrift_is_prime(
     words: &[u32],
     variables: u32,
     nodes: u32,
@@ -151,13 +133,7 @@ pub extern "C" fn quelbrift_is_prime(
 }
 
 // The masks of the prime implicant to which the assignment is struck down.
-#[unsafe(no_mangle)]
-pub extern "C" fn quelbrift_reduce(
-    words: &[u32],
-    variables: u32,
-    nodes: u32,
-    assignment: u64,
-) -> Answer
+pub fn quelbrift_reduce(words: &[u32], variables: u32, nodes: u32, assignment: u64) -> Answer
     ensures { result ≡ answer_of masks (reduction variables nodes words.now assignment) }
 {
     match queries::reduce(words, variables, nodes, assignment) {
@@ -182,8 +158,7 @@ fn partial_answer(r: PartialEvaluation) -> Answer
 
 // The status of a term with the measurements' literals: 2 where every completion satisfies the circuit, 0 where none does, else 1;
 // and how many completions do and do not.
-#[unsafe(no_mangle)]
-pub extern "C" fn quelbrift_evaluate_partial(
+pub fn quelbrift_evaluate_partial(
     words: &[u32],
     variables: u32,
     nodes: u32,
@@ -222,8 +197,7 @@ fn filtered_answer(r: FilteredListing) -> Answer
 
 // Lists the prime implicants of every node, in order by the weights ("minutes"); and in the shown list those of the last node that
 // respect the pairs of variables that exclude each other.
-#[unsafe(no_mangle)]
-pub extern "C" fn quelbrift_list(
+pub fn quelbrift_list(
     words: &[u32],
     variables: u32,
     nodes: u32,
@@ -275,8 +249,7 @@ fn list_answer(r: Listing) -> Answer
 }
 
 // Lists the prime implicants of every node's negation, in the same order.
-#[unsafe(no_mangle)]
-pub extern "C" fn quelbrift_list_negation(
+pub fn quelbrift_list_negation(
     words: &[u32],
     variables: u32,
     nodes: u32,
@@ -301,8 +274,7 @@ pub extern "C" fn quelbrift_list_negation(
 }
 
 // Where a node's entries stand in a buffer of the listing, and how many they are; 0 and 0 for the empty part.
-#[unsafe(no_mangle)]
-pub extern "C" fn quelbrift_view(buffer: &[u64], capacity: u32, node: u32, count: u32) -> Answer
+pub fn quelbrift_view(buffer: &[u64], capacity: u32, node: u32, count: u32) -> Answer
     ensures { result ≡ answer_of (placed capacity node) (answered (viewed buffer.now capacity node count)) }
 {
     let part = listing::view(buffer, capacity, node, count);
@@ -313,8 +285,7 @@ pub extern "C" fn quelbrift_view(buffer: &[u64], capacity: u32, node: u32, count
 }
 
 // Reads the line of an assignment: the mask of the variables that are true.
-#[unsafe(no_mangle)]
-pub extern "C" fn quelbrift_read_assignment(line: &[u8], variables: u32) -> Answer
+pub fn quelbrift_read_assignment(line: &[u8], variables: u32) -> Answer
     ensures { result ≡ answer_of number (read_assignment line.now variables) }
 {
     match text_assignment::assignment::read_assignment(line, variables) {

@@ -25,12 +25,7 @@ fn script_answer(r: ScriptReading) -> Answer
 }
 
 // Reads a loading script into the list: the number of steps. Walked by hand.
-#[unsafe(no_mangle)]
-pub extern "C" fn quelbrift_read_script<'a, 'b>(
-    text: &'a [u8],
-    variables: u32,
-    list: &'b mut [Step],
-) -> Answer
+pub fn quelbrift_read_script<'a, 'b>(text: &'a [u8], variables: u32, list: &'b mut [Step]) -> Answer
     ensures { (result ≡ answer_of number (read_script text.now variables list.old).answer)
         × (list.new ≡ (read_script text.now variables list.old).steps) }
 {
@@ -57,8 +52,7 @@ fn walk_answer(r: Walked) -> Answer
 }
 
 // Walks the steps of the list through the circuit, after listing its prime implicants. Walked by hand.
-#[unsafe(no_mangle)]
-pub extern "C" fn quelbrift_walk<'a, 'b>(
+pub fn quelbrift_walk<'a, 'b>(
     words: &'b [u32],
     variables: u32,
     nodes: u32,

@@ -1,15 +1,12 @@
 use Prim.Native.Nat.{◌+◌}
 use mathlib.Core.Path.{◌≡◌, sym, ap, ◌∙◌}
 use mathlib.Core.Bool.{Bool, true, false, not}
-use mathlib.Core.Logic.{⊎_elim}
 use native.Mathlib.Omega.{arith}
 use Rattle.masks.specs.Numbers.{digit}
-use Rattle.terms.specs.Term.{conflict}
 use Rattle.walk.proofs.Compatible.{kept_from, kept_next, kept-end}
 use Rattle.walk.proofs.count_compatible.Invariants.{free}
 use mathlib.Core.Path.{refl}
 use mathlib.Core.Bool.{true, false}
-use Prim.Native.Nat.{ℕ}
 use Rattle.walk.proofs.count_compatible.Goals as goal
 use Rattle.walk.proofs.count_compatible.Goals.{then-not-conflict, else-not-conflict}
 

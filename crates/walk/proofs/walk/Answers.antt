@@ -1,11 +1,8 @@
 -- `walk::walk` meets its contract.
-use mathlib.Core.Path.{◌≡◌, sym, ap, ◌∙◌}
-use mathlib.Core.List.{List}
-use Rattle.table.specs.Outcome.{accepted, checked}
+use mathlib.Core.Path.{sym, ap, ◌∙◌}
+use Rattle.table.specs.Outcome.{checked}
 use Rattle.table.proofs.Outcomes.{goes_on}
 use Rattle.steps.specs.Steps.{steps_in}
-use Rattle.steps.specs.declared.Step.{Step}
-use Rattle.circuits.specs.Check.{check}
 use Rattle.listing.specs.Listing.{lent}
 use Rattle.walk.specs.Answers.{steps_outcome}
 use Rattle.walk.specs.Walk.{walk_lent, WalkLent}

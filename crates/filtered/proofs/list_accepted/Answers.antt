@@ -6,7 +6,7 @@ use mathlib.Core.List.{List}
 use lib.Dec.{ltb}
 use lib.ListN.{length, take}
 use lib.Seq.{length-take-le}
-use Rattle.exclusions.specs.Exclusions.{exclusions, Exclusions}
+use Rattle.exclusions.specs.Exclusions.{exclusions}
 use Rattle.circuits.specs.Function.{signed_function}
 use Rattle.circuits.proofs.Accepted.{accepted-e, nodes-le}
 use Rattle.insertion.specs.Filled.{by_sign}

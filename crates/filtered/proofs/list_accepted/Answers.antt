@@ -6,7 +6,7 @@ use mathlib.Core.List.{List}
 use lib.Dec.{ltb}
 use lib.ListN.{length, take}
 use lib.Seq.{length-take-le}
-use Rattle.exclusions.specs.Exclusions.{exclusions, Exclusions}
+use Rattle.exclusions.specs.Exclusions.{exclusions}
 use Rattle.circuits.specs.Function.{signed_function}
 use Rattle.circuits.proofs.Accepted.{accepted-e, nodes-le}
 use Rattle.insertion.specs.Filled.{by_sign}
@@ -83,8 +83,8 @@ returns-then-not-fit c =
     let x = c.args in
     let h = x.shape in
     let b : FilteredLent = buffers x.positives.now x.negatives.now x.counts.now x.shown_positives.now x.shown_negatives.now in
-    gives-unweighed x.weights.now (exclusions x.firsts.now x.seconds.now) h.variables h.nodes (signed_function h.sign x.words.now) h.capacity
-    b (all-room h x.words.now b (sym c.is_enough.ensures ∙ c.if-not-is_enough.false) c.if-shown_positives-capacity.false)
+    gives-unweighed x.weights.now (exclusions x.firsts.now x.seconds.now) h.variables h.nodes (signed_function h.sign x.words.now)
+    h.capacity b (all-room h x.words.now b (sym c.is_enough.ensures ∙ c.if-not-is_enough.false) c.if-shown_positives-capacity.false)
     (sym c.fit.ensures ∙ c.if-not-fit.true)
 
 pub returns-then-not-fit-2 : goal.returns-then-not-fit-2

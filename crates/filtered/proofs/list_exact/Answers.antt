@@ -53,8 +53,8 @@ filter_last-requires c =
     let a = c.list_ready.auto in
     record {
       last_held = (
-        last-held _ (exclusions x.firsts.now x.seconds.now) x.words.now x.shape _ _ c.list_ready.result c.requires.words_value.0 c.list_ready.ensures
-            c.if-not-list_ready.false
+        last-held _ (exclusions x.firsts.now x.seconds.now) x.words.now x.shape _ _ c.list_ready.result
+            c.requires.words_value.0 c.list_ready.ensures c.if-not-list_ready.false
             (large x.shape.nodes R (lent x.positives.now x.negatives.now x.counts.now) _ c.requires.counts_value.0 a.positives
             a.negatives a.counts),
         variables-le (accepted-e x.shape.variables x.shape.nodes x.words.now c.requires.words_value.0),

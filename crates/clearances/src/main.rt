@@ -10,6 +10,7 @@ use console::input::Input;
 use console::{tell, write};
 use filtered::FilteredListing;
 use output::refusals::{fault_line, table_refusal_line};
+use std::io::Stdout;
 use table::layout::NODE_WORDS;
 use table::{MAX_VARIABLES, Refusal};
 use terms::Term;
@@ -32,30 +33,30 @@ const ROWS: usize = CAPACITY as usize;
 // How many variables a circuit has at most.
 const VARIABLES: usize = MAX_VARIABLES as usize;
 
-fn print_term(positive: u64, negative: u64) -> bool {
+fn print_term(stdout: Stdout, positive: u64, negative: u64) -> bool {
     let mut line = [0u8; 512];
     let n = output::term_line(&mut line, Term { positive, negative });
-    write(&line, n)
+    write(stdout, &line, n)
 }
 
-fn print_refusal(why: Refusal) -> bool {
+fn print_refusal(stdout: Stdout, why: Refusal) -> bool {
     let mut line = [0u8; 512];
     let n = table_refusal_line(&mut line, why);
-    write(&line, n)
+    write(stdout, &line, n)
 }
 
-fn print_count(count: u32) -> bool {
+fn print_count(stdout: Stdout, count: u32) -> bool {
     let mut line = [0u8; 512];
     let n = output::count_line(&mut line, count);
-    write(&line, n)
+    write(stdout, &line, n)
 }
 
 // A line for each term, up to the first that does not go.
-fn print_terms(positives: &[u64], negatives: &[u64]) -> bool {
+fn print_terms(stdout: Stdout, positives: &[u64], negatives: &[u64]) -> bool {
     let mut k = 0;
     while k < positives.len() {
         if k < negatives.len() {
-            if !print_term(positives[k], negatives[k]) {
+            if !print_term(stdout, positives[k], negatives[k]) {
                 return false;
             }
         }
@@ -65,7 +66,13 @@ fn print_terms(positives: &[u64], negatives: &[u64]) -> bool {
 }
 
 // The terms of the last of the nodes, which is the circuit.
-fn print_last(positives: &[u64], negatives: &[u64], counts: &[u32], nodes: u32) -> bool {
+fn print_last(
+    stdout: Stdout,
+    positives: &[u64],
+    negatives: &[u64],
+    counts: &[u32],
+    nodes: u32,
+) -> bool {
     if nodes < 1 {
         return false;
     }
@@ -74,10 +81,11 @@ fn print_last(positives: &[u64], negatives: &[u64], counts: &[u32], nodes: u32) 
         return false;
     }
     let count = counts[last as usize];
-    if !print_count(count) {
+    if !print_count(stdout, count) {
         return false;
     }
     print_terms(
+        stdout,
         listing::view(positives, CAPACITY, last, count),
         listing::view(negatives, CAPACITY, last, count),
     )
@@ -95,7 +103,7 @@ fn front(entries: &[u32], count: u32) -> &[u32]
 }
 
 // Lists the circuit, every variable weighing nothing and no two excluding each other, and prints its terms, or the refusal.
-fn print_circuit(words: &[u32], variables: u32, nodes: u32) -> bool {
+fn print_circuit(stdout: Stdout, words: &[u32], variables: u32, nodes: u32) -> bool {
     let mut positives = [0u64; ENTRIES];
     let mut negatives = [0u64; ENTRIES];
     let mut counts = [0u32; NODES];
@@ -116,8 +124,8 @@ fn print_circuit(words: &[u32], variables: u32, nodes: u32) -> bool {
         nodes,
         CAPACITY,
     ) {
-        FilteredListing::Refused(why) => print_refusal(why),
-        FilteredListing::Listed(_) => print_last(&positives, &negatives, &counts, nodes),
+        FilteredListing::Refused(why) => print_refusal(stdout, why),
+        FilteredListing::Listed(_) => print_last(stdout, &positives, &negatives, &counts, nodes),
     }
 }
 
@@ -132,26 +140,32 @@ fn read_text(text: &[u8], words: &mut [u32]) -> Reading
 }
 
 // Reads the text and prints the answer.
-fn print_answer(text: &[u8]) -> bool {
+fn print_answer(stdout: Stdout, text: &[u8]) -> bool {
     let mut words = [0u32; NODE_WORDS * NODES];
     match read_text(text, &mut words) {
         Reading::Refused(fault, place) => {
             let mut line = [0u8; 512];
             let n = fault_line(&mut line, fault, place);
-            write(&line, n)
+            write(stdout, &line, n)
         }
-        Reading::Circuit(variables, nodes) => print_circuit(&words, variables, nodes),
+        Reading::Circuit(variables, nodes) => print_circuit(stdout, &words, variables, nodes),
     }
 }
 
 // One byte more than the program takes is enough to tell a text that is too long.
-fn main() {
+fn main(rt: HostRuntime) {
     let mut text = [0u8; BYTES + 1];
-    match console::input::read_input(&mut text) {
-        Input::Failed => tell(b"clearances: standard input could not be read\n"),
+    match console::input::read_input(rt.stdin(), &mut text) {
+        Input::Failed => tell(
+            rt.stderr(),
+            b"clearances: standard input could not be read\n",
+        ),
         Input::Bytes(length) => {
-            if !print_answer(&text[..length]) {
-                tell(b"clearances: standard output could not be written; it is cut\n");
+            if !print_answer(rt.stdout(), &text[..length]) {
+                tell(
+                    rt.stderr(),
+                    b"clearances: standard output could not be written; it is cut\n",
+                );
             }
         }
     }

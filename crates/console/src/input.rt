@@ -2,7 +2,7 @@
 ghost use Rattle.std.specs.Prelude.{◌+◌, ◌≤◌, ◌<◌, ◌≡◌, length};
 ghost use Rattle.console.specs.Input.{Within};
 
-use libc::STDIN_FILENO;
+use std::io::{Read, Stdin};
 
 // How many bytes came, or that a read failed.
 #[derive(Clone, Copy)]
@@ -37,18 +37,17 @@ fn fitting(came: usize, buf: &[u8], done: usize) -> usize
 
 // Reads until the buffer is full or the input ends; bytes past the buffer are dropped. What came before a read that failed is not told:
 // it may be a part of the text.
-pub fn read_input(buf: &mut [u8]) -> Input
+pub fn read_input(mut stdin: Stdin, buf: &mut [u8]) -> Input
     ensures { Within result buf.new }
 {
-    let mut space = io::buffer();
+    let mut space = [0u8; 4096];
     let chunk: &mut [u8] = &mut space;
     let mut done: usize = 0;
     while done < buf.len() {
-        let got = libc::read(STDIN_FILENO, chunk);
-        if got < 0 {
-            return Input::Failed;
-        }
-        let came = io::count(got, chunk);
+        let came = match stdin.read(chunk) {
+            Ok(n) => n,
+            Err(_) => return Input::Failed,
+        };
         if came == 0 {
             return Input::Bytes(done);
         }

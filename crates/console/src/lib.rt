@@ -3,22 +3,22 @@
 
 pub mod input;
 
-use libc::{STDERR_FILENO, STDOUT_FILENO};
+use std::io::{Print, Stderr, Stdout};
 
 // Writes the first n bytes of a line to standard output: whether all of them went.
-pub fn write(line: &[u8], n: usize) -> bool {
+pub fn write(stdout: Stdout, line: &[u8], n: usize) -> bool {
     if n <= line.len() {
-        return io::write_all(STDOUT_FILENO, &line[..n]);
+        return stdout.write_all(&line[..n]).is_ok();
     }
     false
 }
 
 // The same where nobody asks whether it went.
-pub fn print(line: &[u8], n: usize) {
-    write(line, n);
+pub fn print(stdout: Stdout, line: &[u8], n: usize) {
+    write(stdout, line, n);
 }
 
 // Writes a message to standard error.
-pub fn tell(message: &[u8]) {
-    io::write_all(STDERR_FILENO, message);
+pub fn tell(stderr: Stderr, message: &[u8]) {
+    stderr.write_all(message).is_ok();
 }

@@ -1,109 +1,115 @@
 // Asks every question of small circuits and of the one on standard input, and prints the answers.
 #![tactic(auto)]
 
-use console::print;
-use libc::{STDIN_FILENO, STDOUT_FILENO};
+use console::input::{Input, read_input};
+use console::{print, tell};
 use output::refusals::{fault_line, table_refusal_line};
 use partial::{Judgement, PartialEvaluation, Status};
 use queries::{Counted, Evaluation, Reduction, Tested};
+use std::io::{Print, Stdout};
 use table::layout::NODE_WORDS;
 use table::{MAX_NODES, Refusal};
 use terms::Term;
 use text::answer::{Fault, Reading};
 use text::limits::MAX_BYTES;
 
-fn print_refusal(why: Refusal) {
+fn print_refusal(stdout: Stdout, why: Refusal) {
     let mut line = [0u8; 512];
     let n = table_refusal_line(&mut line, why);
-    print(&line, n);
+    print(stdout, &line, n);
 }
 
-fn print_fault(fault: Fault, place: usize) {
+fn print_fault(stdout: Stdout, fault: Fault, place: usize) {
     let mut line = [0u8; 512];
     let n = fault_line(&mut line, fault, place);
-    print(&line, n);
+    print(stdout, &line, n);
 }
 
-fn print_answer(is_yes: bool) {
+fn print_answer(stdout: Stdout, is_yes: bool) {
     if is_yes {
-        print(b"yes\n", 4);
+        print(stdout, b"yes\n", 4);
     } else {
-        print(b"no\n", 3);
+        print(stdout, b"no\n", 3);
     }
 }
 
-fn print_term(t: Term) {
+fn print_term(stdout: Stdout, t: Term) {
     let mut line = [0u8; 512];
     let n = output::term_line(&mut line, t);
-    print(&line, n);
+    print(stdout, &line, n);
+}
+
+fn print_number(stdout: Stdout, number: u64) {
+    stdout.print(number).is_ok();
 }
 
 // The scope's word of a status.
-fn print_status(s: Status) {
+fn print_status(stdout: Stdout, s: Status) {
     match s {
-        Status::Falsified => print(b"(forbidden ", 11),
-        Status::Undetermined => print(b"(open ", 6),
-        Status::Satisfied => print(b"(allowed ", 9),
+        Status::Falsified => print(stdout, b"(forbidden ", 11),
+        Status::Undetermined => print(stdout, b"(open ", 6),
+        Status::Satisfied => print(stdout, b"(allowed ", 9),
     }
 }
 
-fn print_judgement(j: Judgement) {
+fn print_judgement(stdout: Stdout, j: Judgement) {
     let s = j.status;
-    print_status(s);
-    io::print_decimal(STDOUT_FILENO, j.models);
-    print(b" ", 1);
-    io::print_decimal(STDOUT_FILENO, j.countermodels);
-    print(b")\n", 2);
+    print_status(stdout, s);
+    print_number(stdout, j.models);
+    print(stdout, b" ", 1);
+    print_number(stdout, j.countermodels);
+    print(stdout, b")\n", 2);
 }
 
 // 53 with the measurement.
-fn print_wrong(i: usize) {
+fn print_wrong(stdout: Stdout, i: usize) {
     let mut line = [0u8; 512];
     let n = output::refusal_line(&mut line, 53, i as u64);
-    print(&line, n);
+    print(stdout, &line, n);
 }
 
 // The model count.
-fn count(words: &[u32], variables: u32, nodes: u32) {
+fn count(stdout: Stdout, words: &[u32], variables: u32, nodes: u32) {
     match queries::count_models(words, variables, nodes) {
-        Counted::Refused(why) => print_refusal(why),
+        Counted::Refused(why) => print_refusal(stdout, why),
         Counted::Models(m) => {
-            io::print_decimal(STDOUT_FILENO, m);
-            print(b"\n", 1);
+            print_number(stdout, m);
+            print(stdout, b"\n", 1);
         }
     }
 }
 
 // The value at an assignment.
-fn evaluate(words: &[u32], variables: u32, nodes: u32, assignment: u64) {
+fn evaluate(stdout: Stdout, words: &[u32], variables: u32, nodes: u32, assignment: u64) {
     match queries::evaluate(words, variables, nodes, assignment) {
-        Evaluation::Refused(why) => print_refusal(why),
-        Evaluation::Value(v) => print_answer(v),
+        Evaluation::Refused(why) => print_refusal(stdout, why),
+        Evaluation::Value(v) => print_answer(stdout, v),
     }
 }
 
 // Whether the term is an implicant, and a prime one.
-fn test(words: &[u32], variables: u32, nodes: u32, t: Term) {
+fn test(stdout: Stdout, words: &[u32], variables: u32, nodes: u32, t: Term) {
     match queries::implies(words, variables, nodes, t) {
-        Tested::Refused(why) => print_refusal(why),
-        Tested::Answer(b) => print_answer(b),
+        Tested::Refused(why) => print_refusal(stdout, why),
+        Tested::Answer(b) => print_answer(stdout, b),
     }
     match queries::is_prime(words, variables, nodes, t) {
-        Tested::Refused(why) => print_refusal(why),
-        Tested::Answer(b) => print_answer(b),
+        Tested::Refused(why) => print_refusal(stdout, why),
+        Tested::Answer(b) => print_answer(stdout, b),
     }
 }
 
 // What is left of an assignment.
-fn reduce(words: &[u32], variables: u32, nodes: u32, assignment: u64) {
+fn reduce(stdout: Stdout, words: &[u32], variables: u32, nodes: u32, assignment: u64) {
     match queries::reduce(words, variables, nodes, assignment) {
-        Reduction::Refused(why) => print_refusal(why),
-        Reduction::Reduced(t) => print_term(t),
+        Reduction::Refused(why) => print_refusal(stdout, why),
+        Reduction::Reduced(t) => print_term(stdout, t),
     }
 }
 
 // The judgement of a partial assignment: a term, and measurements of variables.
 fn judge(
+    stdout: Stdout,
     words: &[u32],
     variables: u32,
     nodes: u32,
@@ -118,23 +124,30 @@ fn judge(
     match partial::evaluate_partial(
         words, variables, nodes, t, measured, lows, highs, thresholds,
     ) {
-        PartialEvaluation::Refused(why) => print_refusal(why),
-        PartialEvaluation::Measurement(i) => print_wrong(i),
-        PartialEvaluation::Judged(j) => print_judgement(j),
+        PartialEvaluation::Refused(why) => print_refusal(stdout, why),
+        PartialEvaluation::Measurement(i) => print_wrong(stdout, i),
+        PartialEvaluation::Judged(j) => print_judgement(stdout, j),
     }
 }
 
 // Asks the questions of the circuit of a text, with one assignment and one term.
-fn ask(text: &[u8], assignment: u64, positive: u64, negative: u64) {
+fn ask(stdout: Stdout, text: &[u8], assignment: u64, positive: u64, negative: u64) {
     let mut words = [0u32; NODE_WORDS * (MAX_NODES as usize)];
     match text_reader::reader::read(text, &mut words) {
-        Reading::Refused(fault, place) => print_fault(fault, place),
+        Reading::Refused(fault, place) => print_fault(stdout, fault, place),
         Reading::Circuit(variables, nodes) => {
-            count(&words, variables, nodes);
-            evaluate(&words, variables, nodes, assignment);
-            test(&words, variables, nodes, Term { positive, negative });
-            reduce(&words, variables, nodes, assignment);
+            count(stdout, &words, variables, nodes);
+            evaluate(stdout, &words, variables, nodes, assignment);
+            test(
+                stdout,
+                &words,
+                variables,
+                nodes,
+                Term { positive, negative },
+            );
+            reduce(stdout, &words, variables, nodes, assignment);
             judge(
+                stdout,
                 &words,
                 variables,
                 nodes,
@@ -147,12 +160,13 @@ fn ask(text: &[u8], assignment: u64, positive: u64, negative: u64) {
             );
         }
     }
-    print(b"\n", 1);
+    print(stdout, b"\n", 1);
 }
 
 // Measurements: variable 0 true and 1 left unknown; 1 true, where the term has 0 false; 0 false, and 1, which the term has.
-fn measured_questions(words: &[u32], variables: u32, nodes: u32) {
+fn measured_questions(stdout: Stdout, words: &[u32], variables: u32, nodes: u32) {
     judge(
+        stdout,
         words,
         variables,
         nodes,
@@ -163,8 +177,20 @@ fn measured_questions(words: &[u32], variables: u32, nodes: u32) {
         &[12, 3],
         &[10, 0],
     );
-    judge(words, variables, nodes, 0, 1, &[1], &[-4], &[-4], &[-4]);
     judge(
+        stdout,
+        words,
+        variables,
+        nodes,
+        0,
+        1,
+        &[1],
+        &[-4],
+        &[-4],
+        &[-4],
+    );
+    judge(
+        stdout,
         words,
         variables,
         nodes,
@@ -178,40 +204,42 @@ fn measured_questions(words: &[u32], variables: u32, nodes: u32) {
 }
 
 // Asks the circuit of a text with measurements.
-fn ask_measured(text: &[u8]) {
+fn ask_measured(stdout: Stdout, text: &[u8]) {
     let mut words = [0u32; NODE_WORDS * (MAX_NODES as usize)];
     match text_reader::reader::read(text, &mut words) {
-        Reading::Refused(fault, place) => print_fault(fault, place),
-        Reading::Circuit(variables, nodes) => measured_questions(&words, variables, nodes),
+        Reading::Refused(fault, place) => print_fault(stdout, fault, place),
+        Reading::Circuit(variables, nodes) => measured_questions(stdout, &words, variables, nodes),
     }
-    print(b"\n", 1);
+    print(stdout, b"\n", 1);
 }
 
 // P1 to P8.
-fn smallest_circuits() {
-    ask(b"(circuit 1)\n(false)\n", 0, 0, 0);
-    ask(b"(circuit 1)\n(true)\n", 1, 1, 0);
-    ask(b"(circuit 1)\n(pick 0 (true) (true))\n", 0, 0, 0);
-    ask(b"(circuit 2)\n(both (yes 0) (no 1))\n", 1, 1, 2);
-    ask(b"(circuit 1)\n(both (yes 0) (no 0))\n", 0, 0, 0);
-    ask(b"(circuit 1)\n(pick 0 (yes 0) (true))\n", 0, 0, 0);
-    ask(b"(circuit 1)\n(pick 0 (false) (false))\n", 0, 0, 0);
-    ask(b"(circuit 1)\n(yes 0)\n(no 0)\n", 0, 0, 0);
+fn smallest_circuits(stdout: Stdout) {
+    ask(stdout, b"(circuit 1)\n(false)\n", 0, 0, 0);
+    ask(stdout, b"(circuit 1)\n(true)\n", 1, 1, 0);
+    ask(stdout, b"(circuit 1)\n(pick 0 (true) (true))\n", 0, 0, 0);
+    ask(stdout, b"(circuit 2)\n(both (yes 0) (no 1))\n", 1, 1, 2);
+    ask(stdout, b"(circuit 1)\n(both (yes 0) (no 0))\n", 0, 0, 0);
+    ask(stdout, b"(circuit 1)\n(pick 0 (yes 0) (true))\n", 0, 0, 0);
+    ask(stdout, b"(circuit 1)\n(pick 0 (false) (false))\n", 0, 0, 0);
+    ask(stdout, b"(circuit 1)\n(yes 0)\n(no 0)\n", 0, 0, 0);
 }
 
 // P9, with measurements too, to P12; 31 and 32 with an assignment and a term that name variable 4.
-fn larger_circuits() {
+fn larger_circuits(stdout: Stdout) {
     let text = b"(circuit 3)\n(pick 0 (no 1) (pick 1 (yes 2) (true)))\n";
-    ask(text, 5, 4, 2);
-    ask_measured(text);
-    ask(b"(circuit 4)\n(pick 3 (true) (yes 2))\n", 12, 4, 8);
+    ask(stdout, text, 5, 4, 2);
+    ask_measured(stdout, text);
+    ask(stdout, b"(circuit 4)\n(pick 3 (true) (yes 2))\n", 12, 4, 8);
     ask(
+        stdout,
         b"(circuit 4)\n(pick 0 (pick 3 (true) (yes 2)) (no 2))\n",
         5,
         1,
         4,
     );
     ask(
+        stdout,
         b"(circuit 4)\n(pick 1 (pick 0 (pick 3 (true) (yes 2)) (no 2)) (both (no 2) (no 3)))\n",
         16,
         16,
@@ -220,34 +248,55 @@ fn larger_circuits() {
 }
 
 // Conjunctions of eight and of three; 24 between the first child and the last, and at one node in two places; 25 at the third child.
-fn wide_conjunctions() {
+fn wide_conjunctions(stdout: Stdout) {
     ask(
+        stdout,
         b"(circuit 8)\n(both (yes 0) (no 1) (yes 2) (no 3) (yes 4) (no 5) (yes 6) (no 7))\n",
         85,
         85,
         170,
     );
     ask(
+        stdout,
         b"(circuit 6)\n(both (pick 0 (yes 1) (true)) (pick 2 (yes 3) (true)) (pick 4 (yes 5) (true)))\n",
         63,
         21,
         0,
     );
-    ask(b"(circuit 2)\n(both (yes 0) (yes 1) (no 0))\n", 0, 0, 0);
     ask(
+        stdout,
+        b"(circuit 2)\n(both (yes 0) (yes 1) (no 0))\n",
+        0,
+        0,
+        0,
+    );
+    ask(
+        stdout,
         b"(circuit 1)\n(yes 0)\n(both (line 0) (true) (line 0))\n",
         0,
         0,
         0,
     );
-    ask(b"(circuit 2)\n(both (yes 0) (yes 1) (false))\n", 0, 0, 0);
+    ask(
+        stdout,
+        b"(circuit 2)\n(both (yes 0) (yes 1) (false))\n",
+        0,
+        0,
+        0,
+    );
 }
 
-fn main() {
-    smallest_circuits();
-    larger_circuits();
-    wide_conjunctions();
+fn main(rt: HostRuntime) {
+    let stdout = rt.stdout();
+    smallest_circuits(stdout);
+    larger_circuits(stdout);
+    wide_conjunctions(stdout);
     let mut text = [0u8; MAX_BYTES + 1];
-    let length = io::read_full(STDIN_FILENO, &mut text);
-    ask(&text[..length], 0, 0, 0);
+    match read_input(rt.stdin(), &mut text) {
+        Input::Failed => tell(
+            rt.stderr(),
+            b"query_findings: standard input could not be read\n",
+        ),
+        Input::Bytes(length) => ask(stdout, &text[..length], 0, 0, 0),
+    }
 }

@@ -4,6 +4,7 @@
 use console::print;
 use output::refusals::fault_line;
 use output::{refusal_line, term_line};
+use std::io::Stdout;
 use table::layout::NODE_WORDS;
 use terms::Term;
 use text::answer::{Fault, Reading};
@@ -15,47 +16,47 @@ use text_writer::writer::{Written, write};
 const WORDS: usize = NODE_WORDS * 40;
 
 // A refusal with its place.
-fn print_refusal(number: u32, place: usize) {
+fn print_refusal(stdout: Stdout, number: u32, place: usize) {
     let mut line = [0u8; 256];
     let n = refusal_line(&mut line, number, place as u64);
-    print(&line, n);
+    print(stdout, &line, n);
 }
 
 // Why a circuit text is refused.
-fn print_fault(fault: Fault, place: usize) {
+fn print_fault(stdout: Stdout, fault: Fault, place: usize) {
     let mut line = [0u8; 256];
     let n = fault_line(&mut line, fault, place);
-    print(&line, n);
+    print(stdout, &line, n);
 }
 
 // The table as text. One that was read is well-formed, so it is never refused.
-fn print_table(words: &[u32], variables: u32, nodes: u32) {
+fn print_table(stdout: Stdout, words: &[u32], variables: u32, nodes: u32) {
     let mut sink = [0u8; 1024];
     match write(words, variables, nodes, &mut sink) {
-        Written::Done(n) => print(&sink, n),
+        Written::Done(n) => print(stdout, &sink, n),
         Written::Refused(_) => {}
-        Written::Sink(n) => print_refusal(16, n),
+        Written::Sink(n) => print_refusal(stdout, 16, n),
     }
 }
 
 // Reads a circuit text into lent words.
-fn read_into(text: &[u8], words: &mut [u32]) {
+fn read_into(stdout: Stdout, text: &[u8], words: &mut [u32]) {
     match read(text, words) {
-        Reading::Circuit(variables, nodes) => print_table(words, variables, nodes),
-        Reading::Refused(fault, place) => print_fault(fault, place),
+        Reading::Circuit(variables, nodes) => print_table(stdout, words, variables, nodes),
+        Reading::Refused(fault, place) => print_fault(stdout, fault, place),
     }
 }
 
 // Reads a circuit text into so many words, at most as many as there are.
-fn circuit(text: &[u8], room: usize) {
+fn circuit(stdout: Stdout, text: &[u8], room: usize) {
     let mut words = [0u32; WORDS];
     if room <= WORDS {
-        read_into(text, &mut words[..room]);
+        read_into(stdout, text, &mut words[..room]);
     }
 }
 
 // Reads an assignment line of so many variables, and prints those that are yes.
-fn assignment(line: &[u8], variables: u32) {
+fn assignment(stdout: Stdout, line: &[u8], variables: u32) {
     match read_assignment(line, variables) {
         AssignmentReading::Assignment(mask) => {
             let mut row = [0u8; 256];
@@ -66,71 +67,91 @@ fn assignment(line: &[u8], variables: u32) {
                     negative: 0,
                 },
             );
-            print(&row, n);
+            print(stdout, &row, n);
         }
-        AssignmentReading::Sizes => print_refusal(21, 0),
-        AssignmentReading::LineShape(p) => print_refusal(51, p),
-        AssignmentReading::LineOrder(p) => print_refusal(52, p),
+        AssignmentReading::Sizes => print_refusal(stdout, 21, 0),
+        AssignmentReading::LineShape(p) => print_refusal(stdout, 51, p),
+        AssignmentReading::LineOrder(p) => print_refusal(stdout, 52, p),
     }
 }
 
 // The program's circuit, and P1 to P8.
-fn small_circuits() {
+fn small_circuits(stdout: Stdout) {
     circuit(
+        stdout,
         b"(circuit 3)\n(pick 0 (no 1) (pick 1 (yes 2) (true)))\n",
         WORDS,
     );
-    circuit(b"(circuit 1)\n(false)\n", WORDS);
-    circuit(b"(circuit 1)\n(true)\n", WORDS);
-    circuit(b"(circuit 1)\n(pick 0 (true) (true))\n", WORDS);
-    circuit(b"(circuit 2)\n(both (yes 0) (no 1))\n", WORDS);
-    circuit(b"(circuit 1)\n(both (yes 0) (no 0))\n", WORDS);
-    circuit(b"(circuit 1)\n(pick 0 (yes 0) (true))\n", WORDS);
-    circuit(b"(circuit 1)\n(pick 0 (false) (false))\n", WORDS);
-    circuit(b"(circuit 1)\n(yes 0)\n(no 0)\n", WORDS);
+    circuit(stdout, b"(circuit 1)\n(false)\n", WORDS);
+    circuit(stdout, b"(circuit 1)\n(true)\n", WORDS);
+    circuit(stdout, b"(circuit 1)\n(pick 0 (true) (true))\n", WORDS);
+    circuit(stdout, b"(circuit 2)\n(both (yes 0) (no 1))\n", WORDS);
+    circuit(stdout, b"(circuit 1)\n(both (yes 0) (no 0))\n", WORDS);
+    circuit(stdout, b"(circuit 1)\n(pick 0 (yes 0) (true))\n", WORDS);
+    circuit(stdout, b"(circuit 1)\n(pick 0 (false) (false))\n", WORDS);
+    circuit(stdout, b"(circuit 1)\n(yes 0)\n(no 0)\n", WORDS);
 }
 
 // P10 to P12.
-fn example_one() {
-    circuit(b"(circuit 4)\n(pick 3 (true) (yes 2))\n", WORDS);
+fn example_one(stdout: Stdout) {
+    circuit(stdout, b"(circuit 4)\n(pick 3 (true) (yes 2))\n", WORDS);
     circuit(
+        stdout,
         b"(circuit 4)\n(pick 0 (pick 3 (true) (yes 2)) (no 2))\n",
         WORDS,
     );
     circuit(
+        stdout,
         b"(circuit 4)\n(pick 1 (pick 0 (pick 3 (true) (yes 2)) (no 2)) (both (no 2) (no 3)))\n",
         WORDS,
     );
 }
 
 // Shared lines, nested forms, the largest N.
-fn shared_lines() {
-    circuit(b"(circuit 2)\n(yes 0)\n(both (line 0) (yes 1))\n", WORDS);
-    circuit(b"(circuit 1)\n(true)\n(pick 0 (line 0) (line 0))\n", WORDS);
+fn shared_lines(stdout: Stdout) {
     circuit(
+        stdout,
+        b"(circuit 2)\n(yes 0)\n(both (line 0) (yes 1))\n",
+        WORDS,
+    );
+    circuit(
+        stdout,
+        b"(circuit 1)\n(true)\n(pick 0 (line 0) (line 0))\n",
+        WORDS,
+    );
+    circuit(
+        stdout,
         b"(circuit 3)\n(both (yes 0) (no 1))\n(pick 2 (line 0) (false))\n(both (line 1) (line 0))\n",
         WORDS,
     );
-    circuit(b"(circuit 40)\n(no 39)\n", WORDS);
+    circuit(stdout, b"(circuit 40)\n(no 39)\n", WORDS);
     circuit(
+        stdout,
         b"(circuit 2)\n(both (both (true) (false)) (both (no 0) (yes 1)))\n",
         WORDS,
     );
 }
 
 // Conjunctions of three, of eight, of shared lines inside another form, and of one line eight times.
-fn wide_conjunctions() {
-    circuit(b"(circuit 3)\n(both (yes 0) (no 1) (yes 2))\n", WORDS);
+fn wide_conjunctions(stdout: Stdout) {
     circuit(
+        stdout,
+        b"(circuit 3)\n(both (yes 0) (no 1) (yes 2))\n",
+        WORDS,
+    );
+    circuit(
+        stdout,
         b"(circuit 8)\n(both (yes 0) (no 1) (yes 2) (no 3) (yes 4) (no 5) (yes 6) (no 7))\n",
         WORDS,
     );
     circuit(
+        stdout,
         b"(circuit 5)\n(both (yes 0) (true) (no 1))\n(true)\n\
             (pick 4 (line 0) (both (line 1) (line 0) (yes 2) (line 1)))\n",
         WORDS,
     );
     circuit(
+        stdout,
         b"(circuit 1)\n(true)\n\
             (both (line 0) (line 0) (line 0) (line 0) (line 0) (line 0) (line 0) (line 0))\n",
         WORDS,
@@ -138,81 +159,101 @@ fn wide_conjunctions() {
 }
 
 // 11 at the end: texts that are cut.
-fn cut_short() {
-    circuit(b"", WORDS);
-    circuit(b"(", WORDS);
-    circuit(b"(circuit", WORDS);
-    circuit(b"(circuit ", WORDS);
-    circuit(b"(circuit 3", WORDS);
-    circuit(b"(circuit 3)", WORDS);
-    circuit(b"(circuit 3)\n", WORDS);
-    circuit(b"(circuit 3)\n(", WORDS);
-    circuit(b"(circuit 3)\n(pick 0 (no 1)", WORDS);
-    circuit(b"(circuit 1)\n(true)", WORDS);
-    circuit(b"(circuit 1)\n(true)\n(", WORDS);
+fn cut_short(stdout: Stdout) {
+    circuit(stdout, b"", WORDS);
+    circuit(stdout, b"(", WORDS);
+    circuit(stdout, b"(circuit", WORDS);
+    circuit(stdout, b"(circuit ", WORDS);
+    circuit(stdout, b"(circuit 3", WORDS);
+    circuit(stdout, b"(circuit 3)", WORDS);
+    circuit(stdout, b"(circuit 3)\n", WORDS);
+    circuit(stdout, b"(circuit 3)\n(", WORDS);
+    circuit(stdout, b"(circuit 3)\n(pick 0 (no 1)", WORDS);
+    circuit(stdout, b"(circuit 1)\n(true)", WORDS);
+    circuit(stdout, b"(circuit 1)\n(true)\n(", WORDS);
 }
 
 // 11 in the header and after the last line.
-fn misshapen_lines() {
-    circuit(b"(Circuit 1)\n(true)\n", WORDS);
-    circuit(b"(circuit\t1)\n(true)\n", WORDS);
-    circuit(b"(circuit  1)\n(true)\n", WORDS);
-    circuit(b"(circuit -1)\n(true)\n", WORDS);
-    circuit(b"(circuit 07)\n(true)\n", WORDS);
-    circuit(b"(circuit 12345)\n(true)\n", WORDS);
-    circuit(b"(circuit 1)\r\n(true)\n", WORDS);
-    circuit(b"(circuit 1)\n(true))\n", WORDS);
-    circuit(b"(circuit 1)\n(true)\n\n", WORDS);
-    circuit(b"(circuit 1)\n(true)\n ", WORDS);
+fn misshapen_lines(stdout: Stdout) {
+    circuit(stdout, b"(Circuit 1)\n(true)\n", WORDS);
+    circuit(stdout, b"(circuit\t1)\n(true)\n", WORDS);
+    circuit(stdout, b"(circuit  1)\n(true)\n", WORDS);
+    circuit(stdout, b"(circuit -1)\n(true)\n", WORDS);
+    circuit(stdout, b"(circuit 07)\n(true)\n", WORDS);
+    circuit(stdout, b"(circuit 12345)\n(true)\n", WORDS);
+    circuit(stdout, b"(circuit 1)\r\n(true)\n", WORDS);
+    circuit(stdout, b"(circuit 1)\n(true))\n", WORDS);
+    circuit(stdout, b"(circuit 1)\n(true)\n\n", WORDS);
+    circuit(stdout, b"(circuit 1)\n(true)\n ", WORDS);
 }
 
 // 11 in a form.
-fn misshapen_forms() {
-    circuit(b"(circuit 1)\n\xc8", WORDS);
-    circuit(b"(circuit 1)\n(true\xc8)\n", WORDS);
-    circuit(b"(circuit 1)\n(maybe)\n", WORDS);
-    circuit(b"(circuit 1)\n(yes\t0)\n", WORDS);
-    circuit(b"(circuit 1)\n(yes )\n", WORDS);
-    circuit(b"(circuit 1)\n(yes 01)\n", WORDS);
-    circuit(b"(circuit 1)\n(pick 0  (true) (true))\n", WORDS);
-    circuit(b"(circuit 1)\n(both (true))\n", WORDS);
-    circuit(b"(circuit 1)\n(line 0)\n", WORDS);
-    circuit(b"(circuit 1)\n(true)\n(line 0)\n", WORDS);
+fn misshapen_forms(stdout: Stdout) {
+    circuit(stdout, b"(circuit 1)\n\xc8", WORDS);
+    circuit(stdout, b"(circuit 1)\n(true\xc8)\n", WORDS);
+    circuit(stdout, b"(circuit 1)\n(maybe)\n", WORDS);
+    circuit(stdout, b"(circuit 1)\n(yes\t0)\n", WORDS);
+    circuit(stdout, b"(circuit 1)\n(yes )\n", WORDS);
+    circuit(stdout, b"(circuit 1)\n(yes 01)\n", WORDS);
+    circuit(stdout, b"(circuit 1)\n(pick 0  (true) (true))\n", WORDS);
+    circuit(stdout, b"(circuit 1)\n(both (true))\n", WORDS);
+    circuit(stdout, b"(circuit 1)\n(line 0)\n", WORDS);
+    circuit(stdout, b"(circuit 1)\n(true)\n(line 0)\n", WORDS);
 }
 
 // 11 in a conjunction of none or one, of nine, and after eight.
-fn conjunctions_of_others() {
-    circuit(b"(circuit 1)\n(both)\n", WORDS);
-    circuit(b"(circuit 1)\n(both (true)", WORDS);
-    circuit(b"(circuit 1)\n(both (true) (true)", WORDS);
+fn conjunctions_of_others(stdout: Stdout) {
+    circuit(stdout, b"(circuit 1)\n(both)\n", WORDS);
+    circuit(stdout, b"(circuit 1)\n(both (true)", WORDS);
+    circuit(stdout, b"(circuit 1)\n(both (true) (true)", WORDS);
     circuit(
+        stdout,
         b"(circuit 1)\n(both (true) (true) (true) (true) (true) (true) (true) (true) (true))\n",
         WORDS,
     );
     circuit(
+        stdout,
         b"(circuit 1)\n(both (true) (true) (true) (true) (true) (true) (true) (true) )\n",
         WORDS,
     );
 }
 
 // 11 in a decision of one and of three, and between the second form and the third.
-fn third_forms() {
-    circuit(b"(circuit 1)\n(pick 0 (true))\n", WORDS);
-    circuit(b"(circuit 1)\n(pick 0 (true) (true) (true))\n", WORDS);
-    circuit(b"(circuit 1)\n(both (true) (true)  (true))\n", WORDS);
-    circuit(b"(circuit 1)\n(both (true) (true)(true))\n", WORDS);
-    circuit(b"(circuit 1)\n(both (true) (true) )\n", WORDS);
+fn third_forms(stdout: Stdout) {
+    circuit(stdout, b"(circuit 1)\n(pick 0 (true))\n", WORDS);
+    circuit(
+        stdout,
+        b"(circuit 1)\n(pick 0 (true) (true) (true))\n",
+        WORDS,
+    );
+    circuit(
+        stdout,
+        b"(circuit 1)\n(both (true) (true)  (true))\n",
+        WORDS,
+    );
+    circuit(stdout, b"(circuit 1)\n(both (true) (true)(true))\n", WORDS);
+    circuit(stdout, b"(circuit 1)\n(both (true) (true) )\n", WORDS);
 }
 
 // 11 to 14 inside the third form.
-fn faults_in_third_forms() {
-    circuit(b"(circuit 1)\n(both (true) (true) (maybe))\n", WORDS);
-    circuit(b"(circuit 2)\n(both (yes 0) (yes 1) (yes 2))\n", WORDS);
+fn faults_in_third_forms(stdout: Stdout) {
     circuit(
+        stdout,
+        b"(circuit 1)\n(both (true) (true) (maybe))\n",
+        WORDS,
+    );
+    circuit(
+        stdout,
+        b"(circuit 2)\n(both (yes 0) (yes 1) (yes 2))\n",
+        WORDS,
+    );
+    circuit(
+        stdout,
         b"(circuit 1)\n(true)\n(both (line 0) (true) (line 1))\n",
         WORDS,
     );
     circuit(
+        stdout,
         b"(circuit 1)\n(both (both (both (both (both (both (both (both (both (both (both (both (both (both \
             (both (true) (true) (both (",
         WORDS,
@@ -220,35 +261,46 @@ fn faults_in_third_forms() {
 }
 
 // 12, and the bounds that are still allowed.
-fn ranges() {
-    circuit(b"(circuit 0)\n(true)\n", WORDS);
-    circuit(b"(circuit 41)\n(true)\n", WORDS);
-    circuit(b"(circuit 9999)\n(true)\n", WORDS);
-    circuit(b"(circuit 1)\n(yes 0)\n", WORDS);
-    circuit(b"(circuit 1)\n(yes 1)\n", WORDS);
-    circuit(b"(circuit 40)\n(no 40)\n", WORDS);
-    circuit(b"(circuit 2)\n(pick 2 (true) (false))\n", WORDS);
-    circuit(b"(circuit 2)\n(both (yes 0) (no 7))\n", WORDS);
+fn ranges(stdout: Stdout) {
+    circuit(stdout, b"(circuit 0)\n(true)\n", WORDS);
+    circuit(stdout, b"(circuit 41)\n(true)\n", WORDS);
+    circuit(stdout, b"(circuit 9999)\n(true)\n", WORDS);
+    circuit(stdout, b"(circuit 1)\n(yes 0)\n", WORDS);
+    circuit(stdout, b"(circuit 1)\n(yes 1)\n", WORDS);
+    circuit(stdout, b"(circuit 40)\n(no 40)\n", WORDS);
+    circuit(stdout, b"(circuit 2)\n(pick 2 (true) (false))\n", WORDS);
+    circuit(stdout, b"(circuit 2)\n(both (yes 0) (no 7))\n", WORDS);
 }
 
 // 13: the own line, a later one, the number of a node.
-fn references() {
-    circuit(b"(circuit 1)\n(both (line 0) (true))\n", WORDS);
-    circuit(b"(circuit 1)\n(true)\n(both (line 0) (line 1))\n", WORDS);
-    circuit(b"(circuit 1)\n(true)\n(pick 0 (line 9999) (true))\n", WORDS);
+fn references(stdout: Stdout) {
+    circuit(stdout, b"(circuit 1)\n(both (line 0) (true))\n", WORDS);
     circuit(
+        stdout,
+        b"(circuit 1)\n(true)\n(both (line 0) (line 1))\n",
+        WORDS,
+    );
+    circuit(
+        stdout,
+        b"(circuit 1)\n(true)\n(pick 0 (line 9999) (true))\n",
+        WORDS,
+    );
+    circuit(
+        stdout,
         b"(circuit 1)\n(true)\n(pick 0 (line 10000) (true))\n",
         WORDS,
     );
     circuit(
+        stdout,
         b"(circuit 2)\n(both (yes 0) (yes 1))\n(pick 0 (line 2) (true))\n",
         WORDS,
     );
 }
 
 // Sixteen brackets deep on the right, seventeen, and 11 where the seventeenth would be.
-fn deep_right() {
+fn deep_right(stdout: Stdout) {
     circuit(
+        stdout,
         b"(circuit 1)\n\
             (both (true) (both (true) (both (true) (both (true) (both (true) (both (true) (both (true) \
             (both (true) (both (true) (both (true) (both (true) (both (true) (both (true) (both (true) \
@@ -256,6 +308,7 @@ fn deep_right() {
         WORDS,
     );
     circuit(
+        stdout,
         b"(circuit 1)\n\
             (both (true) (both (true) (both (true) (both (true) (both (true) (both (true) (both (true) \
             (both (true) (both (true) (both (true) (both (true) (both (true) (both (true) (both (true) \
@@ -263,6 +316,7 @@ fn deep_right() {
         WORDS,
     );
     circuit(
+        stdout,
         b"(circuit 1)\n\
             (both (true) (both (true) (both (true) (both (true) (both (true) (both (true) (both (true) \
             (both (true) (both (true) (both (true) (both (true) (both (true) (both (true) (both (true) \
@@ -272,141 +326,153 @@ fn deep_right() {
 }
 
 // The seventeenth bracket on the left, missing, there, and that of `(line 0)`.
-fn deep_left() {
+fn deep_left(stdout: Stdout) {
     circuit(
+        stdout,
         b"(circuit 1)\n(both (both (both (both (both (both (both (both (both (both (both (both (both (both (both (both ",
         WORDS,
     );
     circuit(
+        stdout,
         b"(circuit 1)\n(both (both (both (both (both (both (both (both (both (both (both (both (both (both (both (both (",
         WORDS,
     );
     circuit(
+        stdout,
         b"(circuit 1)\n(true)\n(both (both (both (both (both (both (both (both (both (both (both (both (both (both (both (both (line 0)",
         WORDS,
     );
 }
 
 // 15: a node takes eleven words. Room for no node, for one, and for one too few.
-fn rooms() {
-    circuit(b"(circuit 1)\n(true)\n", 0);
-    circuit(b"(circuit 1)\n(true)\n", 10);
-    circuit(b"(circuit 1)\n(true)\n", 11);
+fn rooms(stdout: Stdout) {
+    circuit(stdout, b"(circuit 1)\n(true)\n", 0);
+    circuit(stdout, b"(circuit 1)\n(true)\n", 10);
+    circuit(stdout, b"(circuit 1)\n(true)\n", 11);
     circuit(
+        stdout,
         b"(circuit 3)\n(pick 0 (no 1) (pick 1 (yes 2) (true)))\n",
         55,
     );
     circuit(
+        stdout,
         b"(circuit 3)\n(pick 0 (no 1) (pick 1 (yes 2) (true)))\n",
         54,
     );
     circuit(
+        stdout,
         b"(circuit 3)\n(pick 0 (no 1) (pick 1 (yes 2) (true)))\n",
         33,
     );
-    circuit(b"(circuit 1)\n(true)\n(pick 0 (line 0) (line 0))\n", 21);
     circuit(
+        stdout,
+        b"(circuit 1)\n(true)\n(pick 0 (line 0) (line 0))\n",
+        21,
+    );
+    circuit(
+        stdout,
         b"(circuit 1)\n(both (true) (both (true) (both (true) (both (true) (both (true) (true))))))\n",
         110,
     );
 }
 
 // 15 in the third form of a conjunction and at its closing bracket, and room enough.
-fn rooms_of_three() {
-    circuit(b"(circuit 1)\n(both (true) (true) (true))\n", 32);
-    circuit(b"(circuit 1)\n(both (true) (true) (true))\n", 43);
-    circuit(b"(circuit 1)\n(both (true) (true) (true))\n", 44);
+fn rooms_of_three(stdout: Stdout) {
+    circuit(stdout, b"(circuit 1)\n(both (true) (true) (true))\n", 32);
+    circuit(stdout, b"(circuit 1)\n(both (true) (true) (true))\n", 43);
+    circuit(stdout, b"(circuit 1)\n(both (true) (true) (true))\n", 44);
 }
 
 // 15 beside another fault, at one byte and at two.
-fn rooms_and_faults() {
-    circuit(b"(circuit 1)\n(yes 1)\n", 0);
-    circuit(b"(circuit 1)\n(both (true) (yes 1))\n", 0);
-    circuit(b"(circuit 1)\n(true \n", 0);
-    circuit(b"(circuit 1)\n(both (line 0) (true))\n", 0);
+fn rooms_and_faults(stdout: Stdout) {
+    circuit(stdout, b"(circuit 1)\n(yes 1)\n", 0);
+    circuit(stdout, b"(circuit 1)\n(both (true) (yes 1))\n", 0);
+    circuit(stdout, b"(circuit 1)\n(true \n", 0);
+    circuit(stdout, b"(circuit 1)\n(both (line 0) (true))\n", 0);
 }
 
 // 11 and 12 in one text.
-fn shapes_and_ranges() {
-    circuit(b"(circuit 0)x(true)\n", WORDS);
-    circuit(b"(circuit 0x)\n(true)\n", WORDS);
-    circuit(b"(circuit 41", WORDS);
-    circuit(b"(circuit 41000)\n(true)\n", WORDS);
-    circuit(b"(circuit 1)x(yes 1)\n", WORDS);
-    circuit(b"(circuit 1)\n(yes 1)x", WORDS);
-    circuit(b"(circuit 1)\n(yes 1 )\n", WORDS);
-    circuit(b"(circuit 1)\n(yes 1", WORDS);
-    circuit(b"(circuit 1)\n(pick 5 (maybe) (true))\n", WORDS);
-    circuit(b"(circuit 1)\n(pick 5)\n", WORDS);
+fn shapes_and_ranges(stdout: Stdout) {
+    circuit(stdout, b"(circuit 0)x(true)\n", WORDS);
+    circuit(stdout, b"(circuit 0x)\n(true)\n", WORDS);
+    circuit(stdout, b"(circuit 41", WORDS);
+    circuit(stdout, b"(circuit 41000)\n(true)\n", WORDS);
+    circuit(stdout, b"(circuit 1)x(yes 1)\n", WORDS);
+    circuit(stdout, b"(circuit 1)\n(yes 1)x", WORDS);
+    circuit(stdout, b"(circuit 1)\n(yes 1 )\n", WORDS);
+    circuit(stdout, b"(circuit 1)\n(yes 1", WORDS);
+    circuit(stdout, b"(circuit 1)\n(pick 5 (maybe) (true))\n", WORDS);
+    circuit(stdout, b"(circuit 1)\n(pick 5)\n", WORDS);
 }
 
 // 10, and the longest text that is read.
-fn lengths() {
+fn lengths(stdout: Stdout) {
     let long = [b'('; 110001];
-    circuit(&long, WORDS);
-    circuit(&long[..110000], WORDS);
+    circuit(stdout, &long, WORDS);
+    circuit(stdout, &long[..110000], WORDS);
 }
 
 // Assignment lines that are read, and 21.
-fn assignments() {
-    assignment(b"(stow)\n", 3);
-    assignment(b"(stow 0)\n", 1);
-    assignment(b"(stow 0 3)\n", 4);
-    assignment(b"(stow 0 1 2)\n", 3);
-    assignment(b"(stow 39)\n", 40);
-    assignment(b"(stow 7 12 38 39)\n", 40);
-    assignment(b"(stow)\n", 0);
-    assignment(b"(stow)\n", 41);
-    assignment(b"", 0);
+fn assignments(stdout: Stdout) {
+    assignment(stdout, b"(stow)\n", 3);
+    assignment(stdout, b"(stow 0)\n", 1);
+    assignment(stdout, b"(stow 0 3)\n", 4);
+    assignment(stdout, b"(stow 0 1 2)\n", 3);
+    assignment(stdout, b"(stow 39)\n", 40);
+    assignment(stdout, b"(stow 7 12 38 39)\n", 40);
+    assignment(stdout, b"(stow)\n", 0);
+    assignment(stdout, b"(stow)\n", 41);
+    assignment(stdout, b"", 0);
 }
 
 // 52.
-fn misplaced() {
-    assignment(b"(stow 2 1)\n", 3);
-    assignment(b"(stow 1 1)\n", 3);
-    assignment(b"(stow 3)\n", 3);
-    assignment(b"(stow 0 40)\n", 40);
-    assignment(b"(stow 3 1 0x", 3);
+fn misplaced(stdout: Stdout) {
+    assignment(stdout, b"(stow 2 1)\n", 3);
+    assignment(stdout, b"(stow 1 1)\n", 3);
+    assignment(stdout, b"(stow 3)\n", 3);
+    assignment(stdout, b"(stow 0 40)\n", 40);
+    assignment(stdout, b"(stow 3 1 0x", 3);
 }
 
 // 51.
-fn misshapen_assignments() {
-    assignment(b"", 3);
-    assignment(b"(row)\n", 3);
-    assignment(b"(sto", 3);
-    assignment(b"(stow 0)", 3);
-    assignment(b"(stow 0)\n\n", 3);
-    assignment(b"(stow 0)\n(stow 1)\n", 3);
-    assignment(b"(stow 01)\n", 3);
-    assignment(b"(stow 12345)\n", 3);
-    assignment(b"(stow  0)\n", 3);
-    assignment(b"(stow 0 )\n", 3);
-    assignment(b"(stow 0\t1)\n", 3);
-    assignment(b"(stow 3x)\n", 3);
-    assignment(b"(stow 2 1", 3);
+fn misshapen_assignments(stdout: Stdout) {
+    assignment(stdout, b"", 3);
+    assignment(stdout, b"(row)\n", 3);
+    assignment(stdout, b"(sto", 3);
+    assignment(stdout, b"(stow 0)", 3);
+    assignment(stdout, b"(stow 0)\n\n", 3);
+    assignment(stdout, b"(stow 0)\n(stow 1)\n", 3);
+    assignment(stdout, b"(stow 01)\n", 3);
+    assignment(stdout, b"(stow 12345)\n", 3);
+    assignment(stdout, b"(stow  0)\n", 3);
+    assignment(stdout, b"(stow 0 )\n", 3);
+    assignment(stdout, b"(stow 0\t1)\n", 3);
+    assignment(stdout, b"(stow 3x)\n", 3);
+    assignment(stdout, b"(stow 2 1", 3);
 }
 
-fn main() {
-    small_circuits();
-    example_one();
-    shared_lines();
-    wide_conjunctions();
-    cut_short();
-    misshapen_lines();
-    misshapen_forms();
-    conjunctions_of_others();
-    third_forms();
-    faults_in_third_forms();
-    ranges();
-    references();
-    deep_right();
-    deep_left();
-    rooms();
-    rooms_of_three();
-    rooms_and_faults();
-    shapes_and_ranges();
-    lengths();
-    assignments();
-    misplaced();
-    misshapen_assignments();
+fn main(rt: HostRuntime) {
+    let stdout = rt.stdout();
+    small_circuits(stdout);
+    example_one(stdout);
+    shared_lines(stdout);
+    wide_conjunctions(stdout);
+    cut_short(stdout);
+    misshapen_lines(stdout);
+    misshapen_forms(stdout);
+    conjunctions_of_others(stdout);
+    third_forms(stdout);
+    faults_in_third_forms(stdout);
+    ranges(stdout);
+    references(stdout);
+    deep_right(stdout);
+    deep_left(stdout);
+    rooms(stdout);
+    rooms_of_three(stdout);
+    rooms_and_faults(stdout);
+    shapes_and_ranges(stdout);
+    lengths(stdout);
+    assignments(stdout);
+    misplaced(stdout);
+    misshapen_assignments(stdout);
 }

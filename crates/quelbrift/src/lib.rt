@@ -1,5 +1,5 @@
-// What C and Rust call: each function is thin over one operation. A name is the whole program's, so each begins with the crate's.
-// include/quelbrift.h says what each takes, answers and leaves in each buffer.
+// What C and Rust call, by the exports of `quelbrift_c`: each function is thin over one operation. include/quelbrift.h says what each
+// takes, answers and leaves in each buffer.
 #![tactic(auto)]
 
 ghost use Rattle.std.specs.Prelude.{◌≡◌, false, length};
@@ -18,7 +18,7 @@ ghost use Rattle.listing.specs.Listing.{lent, list_table, listed, viewed};
 ghost use Rattle.filtered.specs.Filtered.{filtered_lent, filtered_table, filtered};
 ghost use Rattle.quelbrift.specs.Boundary.{version, answer_of, nothing, number, numbers, triple, truth, masks, placed};
 
-mod answer;
+pub mod answer;
 pub mod scripts;
 
 use answer::{Answer, done, done_three, done_truth, refused, refused_by};

@@ -24,7 +24,7 @@ fn script_answer(r: ScriptReading) -> Answer
     }
 }
 
-// Reads a loading script into the list: the number of steps. Walked by hand.
+// Reads a loading script into the list: the number of steps.
 pub fn quelbrift_read_script<'a, 'b>(text: &'a [u8], variables: u32, list: &'b mut [Step]) -> Answer
     ensures { (result ≡ answer_of number (read_script text.now variables list.old).answer)
         × (list.new ≡ (read_script text.now variables list.old).steps) }
@@ -51,7 +51,7 @@ fn walk_answer(r: Walked) -> Answer
     }
 }
 
-// Walks the steps of the list through the circuit, after listing its prime implicants. Walked by hand.
+// Walks the steps of the list through the circuit, after listing its prime implicants.
 pub fn quelbrift_walk<'a, 'b>(
     words: &'b [u32],
     variables: u32,

@@ -1,7 +1,7 @@
 -- `listing::fill_nodes` meets its contract.
 -- The loop's invariant: the nodes below i are listed, and zeros follow; the scratch keeps its length.
 use Prim.Native.Nat.{◌-◌, ◌≤◌}
-use mathlib.Core.Path.{◌≡◌, ap}
+use mathlib.Core.Path.{◌≡◌}
 use mathlib.Core.List.{[]}
 use lib.ListN.{length}
 use Rattle.circuits.specs.Function.{signed_function}

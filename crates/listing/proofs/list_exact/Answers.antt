@@ -40,9 +40,9 @@ fill_all-requires c =
       small = s.requires.words_value.1;
       masks = λ b.
           elim b as (λ b. by_sign k.clear.new.positives k.clear.new.negatives b ≡ replicate (h.nodes * h.capacity) 0) [
-        | true ↦ zeros_of (h.nodes * h.capacity) k.clear.new.positives x.positives.now z.0 s.requires.positives_len.0
-        | false ↦ zeros_of (h.nodes * h.capacity) k.clear.new.negatives x.negatives.now z.1 s.requires.positives_len.1
-      ];
+            | true ↦ zeros_of (h.nodes * h.capacity) k.clear.new.positives x.positives.now z.0 s.requires.positives_len.0
+            | false ↦ zeros_of (h.nodes * h.capacity) k.clear.new.negatives x.negatives.now z.1 s.requires.positives_len.1
+          ];
       counts = zeros_of h.nodes k.clear.new.counts x.counts.now z.2 s.requires.words_value.2;
     }
 

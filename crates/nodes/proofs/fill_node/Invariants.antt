@@ -1,5 +1,5 @@
 -- `nodes::fill_node` meets its contract. The invariant: what is made from place k on stands where `high` says.
-use mathlib.Core.Path.{◌≡◌, ap}
+use mathlib.Core.Path.{◌≡◌}
 use lib.ListN.{length}
 use Rattle.insertion.specs.Filled.{by_sign}
 use Rattle.nodes.proofs.Making.{Making}

@@ -12,12 +12,11 @@ pub returns : goal.returns
 returns c =
     let x = c.args in
     let r = c.read-script.result in
-    let filled = script-filled r x.list.now x.text.now x.variables c.read-script.ensures in
-    (
+    let filled = script-filled r x.list.now x.text.now x.variables c.read-script.ensures in (
       c.script_answer.ensures
-      ∙ ap (λ (z : ScriptReading). answer_of number (script_outcome z)) c.reading_in.ensures
-      ∙ ap (answer_of number) filled.0,
+          ∙ ap (λ (z : ScriptReading). answer_of number (script_outcome z)) c.reading_in.ensures
+          ∙ ap (answer_of number) filled.0,
       c.store.ensures
-      ∙ ap₂ (λ (z : Columns) (k : ℕ). stored z k x.list.now) c.columns_in.ensures c.count_in.ensures
-      ∙ filled.1,
+          ∙ ap₂ (λ (z : Columns) (k : ℕ). stored z k x.list.now) c.columns_in.ensures c.count_in.ensures
+          ∙ filled.1,
     )

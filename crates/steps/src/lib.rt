@@ -69,7 +69,7 @@ fn lesser_of(m: usize, n: usize) -> usize
     if m < n { m } else { n }
 }
 
-// A step of the list. Walked by hand.
+// A step of the list.
 pub fn step_at(steps: &[Step], i: usize) -> Step
     requires { i < length steps.now }
     ensures { result ≡ get_or steps.now i no_step }
@@ -77,7 +77,7 @@ pub fn step_at(steps: &[Step], i: usize) -> Step
     steps[i]
 }
 
-// The steps of the list in columns, read in order. No more than the first 256 are looked at: the columns keep no other. Walked by hand.
+// The steps of the list in columns, read in order. No more than the first 256 are looked at: the columns keep no other.
 pub fn columns_of(steps: &[Step]) -> Columns
     ensures { result ≡ columns steps.now }
 {
@@ -91,7 +91,7 @@ pub fn columns_of(steps: &[Step]) -> Columns
     c
 }
 
-// The first n steps of the columns into the list; the others keep their values. Walked by hand.
+// The first n steps of the columns into the list; the others keep their values.
 pub fn store(c: Columns, n: usize, steps: &mut [Step])
     ensures { steps.new ≡ stored c n steps.old }
 {

@@ -229,7 +229,7 @@ fn walk_accepted(
 }
 
 // Walks the first k steps through the circuit, with a weight for each variable and room for so many rows a node. One lifetime serves all
-// slices: a caller whose proof is a walk by hand lends them together.
+// slices: a caller lends them together.
 pub fn walk<'b>(
     positives: &'b mut [u64],
     negatives: &'b mut [u64],

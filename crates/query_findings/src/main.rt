@@ -1,12 +1,13 @@
 // Asks every question of small circuits and of the one on standard input, and prints the answers.
 #![tactic(auto)]
 
-use console::input::{Input, read_input};
-use console::{print, tell};
+ghost use Rattle.console.specs.Input.{IsPrefixLen};
+
+use console::print;
 use output::refusals::{fault_line, table_refusal_line};
 use partial::{Judgement, PartialEvaluation, Status};
 use queries::{Counted, Evaluation, Reduction, Tested};
-use std::io::{Print, Stdout};
+use std::io::{Print, Read, Stdin, Stdout};
 use table::layout::NODE_WORDS;
 use table::{MAX_NODES, Refusal};
 use terms::Term;
@@ -286,17 +287,30 @@ fn wide_conjunctions(stdout: Stdout) {
     );
 }
 
+// Reads until the buffer is full, the input ends or a read fails: how many bytes came.
+fn read_full(mut stdin: Stdin, buf: &mut [u8]) -> usize
+    ensures { IsPrefixLen result buf.new }
+{
+    let mut done: usize = 0;
+    while done < buf.len() {
+        let came = match stdin.read(&mut buf[done..]) {
+            Ok(n) => n,
+            Err(_) => 0,
+        };
+        if came == 0 {
+            break;
+        }
+        done += came;
+    }
+    done
+}
+
 fn main(rt: HostRuntime) {
     let stdout = rt.stdout();
     smallest_circuits(stdout);
     larger_circuits(stdout);
     wide_conjunctions(stdout);
     let mut text = [0u8; MAX_BYTES + 1];
-    match read_input(rt.stdin(), &mut text) {
-        Input::Failed => tell(
-            rt.stderr(),
-            b"query_findings: standard input could not be read\n",
-        ),
-        Input::Bytes(length) => ask(stdout, &text[..length], 0, 0, 0),
-    }
+    let length = read_full(rt.stdin(), &mut text);
+    ask(stdout, &text[..length], 0, 0, 0);
 }

@@ -1,0 +1,9 @@
+-- `query_findings::read_full` meets its contract. The loop's invariant: what came is within the buffer.
+use Rattle.std.proofs.Common.{◌-◌, ◌≤◌, length}
+use Rattle.query_findings.proofs.read_full.Given as goal
+
+abbrev pub invariant-loop-done : goal.invariant-loop-done
+invariant-loop-done l = l.done ≤ length l.buf
+
+abbrev pub decreases-loop-done : goal.decreases-loop-done
+decreases-loop-done l = length l.buf - l.done

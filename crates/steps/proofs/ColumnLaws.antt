@@ -182,15 +182,15 @@ steps-cut ss k h g = steps_first (columns ss) (length ss) k h ∙ steps-taken ss
 
 -- ---- the lesser of two numbers, and the steps that the columns keep
 module _ (m n : ℕ) where
-  lesser-same : m ≤ n → lesser m n ≡ m
-  lesser-same h = by (ltb m n) refl
+  lesser-left : m ≤ n → lesser m n ≡ m
+  lesser-left h = by (ltb m n) refl
     where
       by : (b : Bool) → ltb m n ≡ b → lesser m n ≡ m
       by true e = rw e
       by false e = let l : n ≤ m = ltb-false m n e in rw e (omega arith)
 
-  pub lesser-left : lesser m n ≤ m
-  lesser-left = by (ltb m n) refl
+  pub lesser-first : lesser m n ≤ m
+  lesser-first = by (ltb m n) refl
     where
       by : (b : Bool) → ltb m n ≡ b → lesser m n ≤ m
       by true e = rw e (le_refl m)
@@ -215,12 +215,12 @@ columns-first ss = by (ltb (length ss) 256) refl
 pub stored-all : (ss ys : List Step) → length ss ≤ 256 → length ss ≤ length ys
     → stored (columns ss) (length ss) ys ≡ ss ++ drop (length ss) ys
 unfolding stored
-stored-all ss ys h g = rw (lesser-same (length ss) (length ys) g, steps-again ss h)
+stored-all ss ys h g = rw (lesser-left (length ss) (length ys) g, steps-again ss h)
 
 module _ (c : Columns) (ys : List Step) where
   pub stored-none : stored c 0 ys ≡ ys
   unfolding stored steps_in below
-  stored-none = rw (lesser-same 0 (length ys) (omega arith))
+  stored-none = rw (lesser-left 0 (length ys) (omega arith))
 
   -- the list while it is stored: i steps are those of the columns, and the others are as they were
   abbrev pub storing : ℕ → List Step

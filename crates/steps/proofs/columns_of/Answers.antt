@@ -1,5 +1,5 @@
 use Rattle.std.proofs.Common.{ap, ◌∙◌, ◌≡◌, ◌<◌, length, take, arith}
-use Rattle.steps.proofs.ColumnLaws.{columns-none, columns-more, columns-first, lesser-left}
+use Rattle.steps.proofs.ColumnLaws.{columns-none, columns-more, columns-first, lesser-first}
 use Rattle.steps.specs.Steps.{lesser, columns}
 use Rattle.steps.proofs.columns_of.Goals as goal
 
@@ -10,7 +10,7 @@ pub loop-i-preserved : goal.loop-i-preserved
 loop-i-preserved c =
     let ss = c.args.steps.now in
     let i = c.loop-i.i in
-    let inside : i < length ss = omega (arith, lesser-left (length ss) 256) in
+    let inside : i < length ss = omega (arith, lesser-first (length ss) 256) in
     (omega arith, rw (c.with_step-c.ensures, c.step_at.ensures, c.loop-i.invariant.1) (columns-more ss i inside))
 
 pub returns : goal.returns

@@ -18,13 +18,24 @@ use Rattle.exclusions.proofs.filter.Lts as lts
 use Rattle.exclusions.proofs.filter.Reads as reads
 use Rattle.exclusions.proofs.filter.Tie as tie
 
+-- places of the code
+abbrev Start : Type 0
+Start = lts.Start tie.the-claims reads.Pre reads.Post goal.the-invariant-loop-k goal.the-decreases-loop-k tie.handed_clauses
+
+abbrev After-violates : Type 0
+After-violates =
+    lts.After-violates tie.the-claims reads.Pre reads.Post goal.the-invariant-loop-k goal.the-decreases-loop-k tie.handed_clauses
+
+abbrev At-loop : Type 0
+At-loop = lts.At-loop tie.the-claims reads.Pre reads.Post goal.the-invariant-loop-k goal.the-decreases-loop-k tie.handed_clauses
+
 -- at the start both slices are zeros, one for each entry of the first
-zeros : (s : lts.Start tie.the-claims reads.Pre reads.Post goal.the-invariant-loop-k goal.the-decreases-loop-k tie.handed_clauses) (b : Bool)
+zeros : (s : Start) (b : Bool)
     → by_sign s.args.positives.now s.args.negatives.now b ≡ replicate (length s.args.positives.now) 0
 zeros s true = s.requires.positives_value.0
 zeros s false = s.requires.positives_value.1
 
-level : (s : lts.Start tie.the-claims reads.Pre reads.Post goal.the-invariant-loop-k goal.the-decreases-loop-k tie.handed_clauses) → length s.args.negatives.now ≡ length s.args.positives.now
+level : (s : Start) → length s.args.negatives.now ≡ length s.args.positives.now
 level s = ap length (zeros s false) ∙ length-replicate (length s.args.positives.now) 0
 
 pub loop-k-init : goal.loop-k-init
@@ -46,11 +57,11 @@ bounds-negatives-count c =
     omega (arith, level l.before.before.before.before.before.before.before)
 
 -- the term of a turn, which is the first of what is left
-module _ (c : lts.After-violates tie.the-claims reads.Pre reads.Post goal.the-invariant-loop-k goal.the-decreases-loop-k tie.handed_clauses) where
-  abbrev turn : lts.At-loop tie.the-claims reads.Pre reads.Post goal.the-invariant-loop-k goal.the-decreases-loop-k tie.handed_clauses
+module _ (c : After-violates) where
+  abbrev turn : At-loop
   turn = c.before.before.before
 
-  abbrev start : lts.Start tie.the-claims reads.Pre reads.Post goal.the-invariant-loop-k goal.the-decreases-loop-k tie.handed_clauses
+  abbrev start : Start
   start = turn.before.before.before.before.before.before
 
   abbrev list : List Term

@@ -41,7 +41,8 @@ returns-then-not-is_distinct c =
     let l = c.before.before.before.before.before in
     let x = l.before.before.before.before.args in
     let p : ℕ → Bool = fits x.variables x.firsts.now x.seconds.now in
-    let bad : p l.loop-i.i ≡ false = sym c.before.is_distinct.ensures ∙ was-false c.before.is_distinct.result c.if-not-is_distinct.true-raw in
+    let bad : p l.loop-i.i ≡ false = sym c.before.is_distinct.ensures
+    ∙ was-false c.before.is_distinct.result c.if-not-is_distinct.true-raw in
     sym (ap₂ ◌&&◌ (complete l.before) (every-fails (length x.firsts.now) p l.loop-i.i (omega arith) bad))
 
 pub loop-i-preserved : goal.loop-i-preserved

@@ -78,7 +78,8 @@ loop-i-preserved c =
     let l = t.before.loop-i in (
       omega arith,
       simp length-set l.invariant.1,
-      folded-next (pairs t.before) l.i (omega (arith, first_fits t.before)) l.invariant.2 c.before.with_bit.ensures c.with_bit-heads.ensures,
+      folded-next (pairs t.before) l.i (omega (arith, first_fits t.before)) l.invariant.2 c.before.with_bit.ensures
+          c.with_bit-heads.ensures,
       subst (λ (m : ℕ). m < 2 ^ masks t.before) (sym c.with_bit-heads.ensures)
           (put-lt (masks t.before) l.heads (first_at (pairs t.before) l.i) true (first_fits t.before) l.invariant.3),
     )

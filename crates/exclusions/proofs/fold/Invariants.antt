@@ -8,7 +8,8 @@ use Rattle.exclusions.proofs.fold.Given as goal
 
 abbrev pub invariant-loop-i : goal.invariant-loop-i
 invariant-loop-i l =
-    (l.i ≤ length l.firsts) × (length l.partners ≡ length l.initial.partners) × Folded (exclusions l.firsts l.seconds) l.i l.partners l.heads
+    (l.i ≤ length l.firsts) × (length l.partners ≡ length l.initial.partners)
+    × Folded (exclusions l.firsts l.seconds) l.i l.partners l.heads
     × (l.heads < 2 ^ length l.initial.partners)
 
 abbrev pub decreases-loop-i : goal.decreases-loop-i

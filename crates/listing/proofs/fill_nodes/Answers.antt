@@ -27,6 +27,13 @@ use Rattle.listing.proofs.fill_nodes.Lts as lts
 use Rattle.listing.proofs.fill_nodes.Reads as reads
 use Rattle.listing.proofs.fill_nodes.Tie as tie
 
+-- places of the code
+abbrev After-part_of : Type 0
+After-part_of = lts.After-part_of tie.the-claims reads.Pre reads.Post goal.the-invariant-loop-i goal.the-decreases-loop-i tie.handed_clauses
+
+abbrev Then1 : Type 0
+Then1 = lts.Then1 tie.the-claims reads.Pre reads.Post goal.the-invariant-loop-i goal.the-decreases-loop-i tie.handed_clauses
+
 abbrev Start : Type 0
 Start = lts.Start tie.the-claims reads.Pre reads.Post goal.the-invariant-loop-i goal.the-decreases-loop-i tie.handed_clauses
 
@@ -47,10 +54,10 @@ abbrev then : Called → Bool → List ℕ
 then p = by_sign p.fill_node.new.positives p.fill_node.new.negatives
 
 -- the part that was made for the call, the test before it, and its turn
-abbrev made : Called → lts.After-part_of tie.the-claims reads.Pre reads.Post goal.the-invariant-loop-i goal.the-decreases-loop-i tie.handed_clauses
+abbrev made : Called → After-part_of
 made p = p.before.before.before.before.before.before.before
 
-abbrev going : Called → lts.Then1 tie.the-claims reads.Pre reads.Post goal.the-invariant-loop-i goal.the-decreases-loop-i tie.handed_clauses
+abbrev going : Called → Then1
 going p = (made p).before
 
 abbrev turn : Called → Loop
@@ -178,16 +185,24 @@ shape_of-counts-in_default c =
     counted a ∙ sym (zero-counts (start a))
 
 pub shape_of-ap-in_default : goal.shape_of-ap-in_default
-shape_of-ap-in_default c = let p : Called = c.before.before.before.before.before.before.before.before.before.before.before.before.before.before in p.fill_node.auto.ap ∙ (turn p).loop-i.invariant.2.0
+shape_of-ap-in_default c =
+    let p : Called = c.before.before.before.before.before.before.before.before.before.before.before.before.before.before in
+    p.fill_node.auto.ap ∙ (turn p).loop-i.invariant.2.0
 
 pub shape_of-an-in_default : goal.shape_of-an-in_default
-shape_of-an-in_default c = let p : Called = c.before.before.before.before.before.before.before.before.before.before.before.before.before.before in p.fill_node.auto.an ∙ (turn p).loop-i.invariant.2.1
+shape_of-an-in_default c =
+    let p : Called = c.before.before.before.before.before.before.before.before.before.before.before.before.before.before in
+    p.fill_node.auto.an ∙ (turn p).loop-i.invariant.2.1
 
 pub shape_of-bp-in_default : goal.shape_of-bp-in_default
-shape_of-bp-in_default c = let p : Called = c.before.before.before.before.before.before.before.before.before.before.before.before.before.before in p.fill_node.auto.bp ∙ (turn p).loop-i.invariant.2.2
+shape_of-bp-in_default c =
+    let p : Called = c.before.before.before.before.before.before.before.before.before.before.before.before.before.before in
+    p.fill_node.auto.bp ∙ (turn p).loop-i.invariant.2.2
 
 pub shape_of-bn-in_default : goal.shape_of-bn-in_default
-shape_of-bn-in_default c = let p : Called = c.before.before.before.before.before.before.before.before.before.before.before.before.before.before in p.fill_node.auto.bn ∙ (turn p).loop-i.invariant.2.3
+shape_of-bn-in_default c =
+    let p : Called = c.before.before.before.before.before.before.before.before.before.before.before.before.before.before in
+    p.fill_node.auto.bn ∙ (turn p).loop-i.invariant.2.3
 
 pub returns-in_default : goal.returns-in_default
 returns-in_default c =

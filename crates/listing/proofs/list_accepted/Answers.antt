@@ -13,31 +13,47 @@ use Rattle.listing.proofs.list_accepted.Lts as lts
 use Rattle.listing.proofs.list_accepted.Reads as reads
 use Rattle.listing.proofs.list_accepted.Tie as tie
 
-abbrev start : lts.After-is_enough tie.the-claims reads.Pre reads.Post tie.handed_clauses → lts.Start tie.the-claims reads.Pre reads.Post tie.handed_clauses
+-- places of the code
+abbrev After-is_enough : Type 0
+After-is_enough = lts.After-is_enough tie.the-claims reads.Pre reads.Post tie.handed_clauses
+
+abbrev Start : Type 0
+Start = lts.Start tie.the-claims reads.Pre reads.Post tie.handed_clauses
+
+abbrev After-fit : Type 0
+After-fit = lts.After-fit tie.the-claims reads.Pre reads.Post tie.handed_clauses
+
+abbrev Else2 : Type 0
+Else2 = lts.Else2 tie.the-claims reads.Pre reads.Post tie.handed_clauses
+
+abbrev After-list_ready : Type 0
+After-list_ready = lts.After-list_ready tie.the-claims reads.Pre reads.Post tie.handed_clauses
+
+abbrev start : After-is_enough → Start
 start h = h.before.before.before.before.before.before
 
 -- the lent buffers
-abbrev buffers : lts.Start tie.the-claims reads.Pre reads.Post tie.handed_clauses → Lent
+abbrev buffers : Start → Lent
 buffers s = lent s.args.positives.now s.args.negatives.now s.args.counts.now
 
-accepts : (s : lts.Start tie.the-claims reads.Pre reads.Post tie.handed_clauses) → Accepted s.args.shape.variables s.args.shape.nodes s.args.words.now
+accepts : (s : Start) → Accepted s.args.shape.variables s.args.shape.nodes s.args.words.now
 accepts s = accepted-e s.args.shape.variables s.args.shape.nodes s.args.words.now s.requires
 
-most : (s : lts.Start tie.the-claims reads.Pre reads.Post tie.handed_clauses) → s.args.shape.nodes ≤ max_nodes
+most : (s : Start) → s.args.shape.nodes ≤ max_nodes
 most s = nodes-le (accepts s)
 
 -- what the test of the buffers said, and that of the weights
-tested : (h : lts.After-is_enough tie.the-claims reads.Pre reads.Post tie.handed_clauses) (b : Bool) → not h.is_enough.result ≡ b
+tested : (h : After-is_enough) (b : Bool) → not h.is_enough.result ≡ b
     → let s = start h in suffices s.args.shape.nodes s.args.shape.capacity (buffers s) ≡ not b
 tested h b e = sym h.is_enough.ensures ∙ not-flip h.is_enough.result b e
 
-weighed : (q : lts.After-fit tie.the-claims reads.Pre reads.Post tie.handed_clauses) (b : Bool) → not q.fit.result ≡ b
+weighed : (q : After-fit) (b : Bool) → not q.fit.result ≡ b
     → let s = start q.before.before in fitting s.args.shape.variables s.args.weights.now ≡ not b
 weighed q b e = sym q.fit.ensures ∙ not-flip q.fit.result b e
 
 -- both are passed
-module _ (e : lts.Else2 tie.the-claims reads.Pre reads.Post tie.handed_clauses) where
-  abbrev first : lts.Start tie.the-claims reads.Pre reads.Post tie.handed_clauses
+module _ (e : Else2) where
+  abbrev first : Start
   first = start e.before.before.before
 
   is-enough : suffices first.args.shape.nodes first.args.shape.capacity (buffers first) ≡ true
@@ -72,7 +88,7 @@ list_ready-requires c =
     record { words_value = ((first e.before).requires, fits e.before); counts_value = is-enough e.before }
 
 -- the buffers after the listing
-abbrev after : lts.After-list_ready tie.the-claims reads.Pre reads.Post tie.handed_clauses → Lent
+abbrev after : After-list_ready → Lent
 after p = let l = p.list_ready.new in lent l.positives l.negatives l.counts
 
 pub returns-then-list_ready : goal.returns-then-list_ready
@@ -82,7 +98,8 @@ returns-then-list_ready c =
     let s = first e.before in
     let x = s.args in
     lists-all x.shape.sign x.weights.now x.shape.variables x.shape.nodes x.words.now x.shape.capacity
-    (buffers s) s.requires (is-enough e.before) (fits e.before) (after p.before) p.list_ready.result p.list_ready.ensures c.if-list_ready.true
+    (buffers s) s.requires (is-enough e.before) (fits e.before) (after p.before) p.list_ready.result p.list_ready.ensures
+    c.if-list_ready.true
 
 pub returns : goal.returns
 returns c =
@@ -91,4 +108,5 @@ returns c =
     let s = first e.before in
     let x = s.args in
     lists-lack x.shape.sign x.weights.now x.shape.variables x.shape.nodes x.words.now x.shape.capacity
-    (buffers s) s.requires (is-enough e.before) (fits e.before) (after p.before) p.list_ready.result p.list_ready.ensures c.if-list_ready.false
+    (buffers s) s.requires (is-enough e.before) (fits e.before) (after p.before) p.list_ready.result p.list_ready.ensures
+    c.if-list_ready.false

@@ -14,18 +14,28 @@ use Rattle.listing.proofs.list_exact.Lts as lts
 use Rattle.listing.proofs.list_exact.Reads as reads
 use Rattle.listing.proofs.list_exact.Tie as tie
 
-abbrev start : lts.After-clear tie.the-claims reads.Pre reads.Post tie.handed_clauses → lts.Start tie.the-claims reads.Pre reads.Post tie.handed_clauses
+-- places of the code
+abbrev After-clear : Type 0
+After-clear = lts.After-clear tie.the-claims reads.Pre reads.Post tie.handed_clauses
+
+abbrev Start : Type 0
+Start = lts.Start tie.the-claims reads.Pre reads.Post tie.handed_clauses
+
+abbrev After-fill_all : Type 0
+After-fill_all = lts.After-fill_all tie.the-claims reads.Pre reads.Post tie.handed_clauses
+
+abbrev start : After-clear → Start
 start k = k.before.before.before.before.before.before.before.before.before
 
 -- after the first clearing, and after the loop over the nodes
-abbrev cleared : lts.After-fill_all tie.the-claims reads.Pre reads.Post tie.handed_clauses → lts.After-clear tie.the-claims reads.Pre reads.Post tie.handed_clauses
+abbrev cleared : After-fill_all → After-clear
 cleared f = f.before.before.before.before.before.before.before.before.before.before
 
 -- the nodes' functions, or their negations
-abbrev listed : lts.Start tie.the-claims reads.Pre reads.Post tie.handed_clauses → ℕ → ℕ → Bool
+abbrev listed : Start → ℕ → ℕ → Bool
 listed s = signed_function s.args.shape.sign s.args.words.now
 
-abbrev buffers : lts.After-fill_all tie.the-claims reads.Pre reads.Post tie.handed_clauses → Bool → List ℕ
+abbrev buffers : After-fill_all → Bool → List ℕ
 buffers f = by_sign f.fill_all.new.positives f.fill_all.new.negatives
 
 pub fill_all-requires : goal.fill_all-requires
@@ -46,7 +56,7 @@ fill_all-requires c =
       counts = zeros_of h.nodes k.clear.new.counts x.counts.now z.2 s.requires.words_value.2;
     }
 
-accepts : (s : lts.Start tie.the-claims reads.Pre reads.Post tie.handed_clauses) → Accepted s.args.shape.variables s.args.shape.nodes s.args.words.now
+accepts : (s : Start) → Accepted s.args.shape.variables s.args.shape.nodes s.args.words.now
 accepts s = accepted-e s.args.shape.variables s.args.shape.nodes s.args.words.now s.requires.words_value.0
 
 pub arrange_all-requires : goal.arrange_all-requires
@@ -83,8 +93,10 @@ returns c =
     let x = s.args in
     let h = x.shape in
     let d = z.clear-2.ensures in
-    let p : length f.fill_all.new.positives ≡ h.nodes * h.capacity = f.fill_all.auto.positives ∙ k.clear.auto.positives ∙ s.requires.positives_len.0 in
-    let q : length f.fill_all.new.negatives ≡ h.nodes * h.capacity = f.fill_all.auto.negatives ∙ k.clear.auto.negatives ∙ s.requires.positives_len.1 in
+    let p : length f.fill_all.new.positives ≡ h.nodes * h.capacity = f.fill_all.auto.positives ∙ k.clear.auto.positives
+    ∙ s.requires.positives_len.0 in
+    let q : length f.fill_all.new.negatives ≡ h.nodes * h.capacity = f.fill_all.auto.negatives ∙ k.clear.auto.negatives
+    ∙ s.requires.positives_len.1 in
     let m : length f.fill_all.new.counts ≡ h.nodes = f.fill_all.auto.counts ∙ k.clear.auto.counts ∙ s.requires.words_value.2 in
     exact_none x.weights.now h.variables h.nodes (listed s) h.capacity (buffers f.before) f.fill_all.new.counts
     f.fill_all.result f.fill_all.ensures (by_sign z.clear-2.new.positives z.clear-2.new.negatives) z.clear-2.new.counts

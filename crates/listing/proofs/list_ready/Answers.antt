@@ -18,18 +18,25 @@ use Rattle.listing.proofs.list_ready.Lts as lts
 use Rattle.listing.proofs.list_ready.Reads as reads
 use Rattle.listing.proofs.list_ready.Tie as tie
 
+-- places of the code
+abbrev Start : Type 0
+Start = lts.Start tie.the-claims reads.Pre reads.Post tie.handed_clauses
+
+abbrev After-struct_known : Type 0
+After-struct_known = lts.After-struct_known tie.the-claims reads.Pre reads.Post tie.handed_clauses
+
 -- the lent buffers
-abbrev buffers : lts.Start tie.the-claims reads.Pre reads.Post tie.handed_clauses → Lent
+abbrev buffers : Start → Lent
 buffers s = lent s.args.positives.now s.args.negatives.now s.args.counts.now
 
-most : (s : lts.Start tie.the-claims reads.Pre reads.Post tie.handed_clauses) → s.args.shape.nodes ≤ max_nodes
+most : (s : Start) → s.args.shape.nodes ≤ max_nodes
 most s = nodes-le (accepted-e s.args.shape.variables s.args.shape.nodes s.args.words.now s.requires.words_value.0)
 
-large : (s : lts.Start tie.the-claims reads.Pre reads.Post tie.handed_clauses) → Enough s.args.shape.nodes s.args.shape.capacity (buffers s)
+large : (s : Start) → Enough s.args.shape.nodes s.args.shape.capacity (buffers s)
 large s = enough s.args.shape.nodes s.args.shape.capacity (buffers s) (along (sym s.requires.counts_value) tt)
 
 -- after the slices and the shape are known
-abbrev start : lts.After-struct_known tie.the-claims reads.Pre reads.Post tie.handed_clauses → lts.Start tie.the-claims reads.Pre reads.Post tie.handed_clauses
+abbrev start : After-struct_known → Start
 start c = c.before.before.before.before.before.before
 
 pub overflow_mul-total : goal.overflow_mul-total

@@ -11,11 +11,17 @@ pub returns-then-node-ge-MAX_NODES : goal.returns-then-node-ge-MAX_NODES
 returns-then-node-ge-MAX_NODES c = simp (le-ltb _ _ c.before.if-node-ge-MAX_NODES.true)
 
 pub returns-then-capacity-gt-MAX_CAPACITY : goal.returns-then-capacity-gt-MAX_CAPACITY
-returns-then-capacity-gt-MAX_CAPACITY c = simp (lt-ltb _ _ c.before.before.if-node-ge-MAX_NODES.false, lt-leb _ _ c.before.if-capacity-gt-MAX_CAPACITY.true)
+returns-then-capacity-gt-MAX_CAPACITY c =
+    simp (lt-ltb _ _ c.before.before.if-node-ge-MAX_NODES.false, lt-leb _ _ c.before.if-capacity-gt-MAX_CAPACITY.true)
 
 pub returns-then-capacity-count : goal.returns-then-capacity-count
 returns-then-capacity-count c =
-    simp (lt-ltb _ _ c.before.before.before.if-node-ge-MAX_NODES.false, le-leb _ _ c.before.before.if-capacity-gt-MAX_CAPACITY.false, lt-leb _ _ c.before.if-capacity-count.true)
+    simp (
+      lt-ltb _ _ c.before.before.before.if-node-ge-MAX_NODES.false,
+      le-leb _ _
+          c.before.before.if-capacity-gt-MAX_CAPACITY.false,
+      lt-leb _ _ c.before.if-capacity-count.true,
+    )
 
 pub overflow_mul-start : goal.overflow_mul-start
 overflow_mul-start c =

@@ -18,7 +18,8 @@ pub loop-i-init : goal.loop-i-init
 loop-i-init c = (
   search rules,
   seen_start (measurements c.args.measured.now c.args.lows.now c.args.highs.now c.args.thresholds.now) c.args.known,
-  search-start (wrong c.args.variables c.args.known (measurements c.args.measured.now c.args.lows.now c.args.highs.now c.args.thresholds.now)),
+  search-start (wrong c.args.variables c.args.known (measurements c.args.measured.now c.args.lows.now c.args.highs.now
+      c.args.thresholds.now)),
 )
 
 pub returns-then-is_wrong : goal.returns-then-is_wrong
@@ -53,7 +54,8 @@ with_bit-seen-requires c =
     let small : c.args.variables < 64 = c.requires in
     let fits : x < c.args.variables =
     nleb→lt c.args.variables x
-    (second-fails (lt_z (high_at m c.loop-i.i) (low_at m c.loop-i.i)) (leb c.args.variables x) (bit c.loop-i.seen x) tested c.if-is_wrong.false) in
+    (second-fails (lt_z (high_at m c.loop-i.i) (low_at m c.loop-i.i)) (leb c.args.variables x) (bit c.loop-i.seen x) tested
+    c.if-is_wrong.false) in
     omega arith
 
 pub loop-i-preserved : goal.loop-i-preserved
@@ -77,7 +79,9 @@ loop-i-preserved c =
 
 pub returns : goal.returns
 returns c =
-    let e : c.shortest-complete.result ≡ complete (measurements c.args.measured.now c.args.lows.now c.args.highs.now c.args.thresholds.now) = c.shortest-complete.ensures in
+    let e : c.shortest-complete.result ≡ complete (measurements c.args.measured.now c.args.lows.now c.args.highs.now
+    c.args.thresholds.now) = c.shortest-complete.ensures in
     let below = c.loop-i.invariant.0 in
     let past = c.loop-i-test.false in
-    first-end (measurements c.args.measured.now c.args.lows.now c.args.highs.now c.args.thresholds.now) c.args.variables c.args.known c.loop-i.i (omega arith) (omega arith) c.loop-i.invariant.2
+    first-end (measurements c.args.measured.now c.args.lows.now c.args.highs.now c.args.thresholds.now) c.args.variables
+    c.args.known c.loop-i.i (omega arith) (omega arith) c.loop-i.invariant.2

@@ -16,23 +16,37 @@ use Rattle.nodes.proofs.conjoin.Lts as lts
 use Rattle.nodes.proofs.conjoin.Reads as reads
 use Rattle.nodes.proofs.conjoin.Tie as tie
 
-abbrev slices : lts.Start tie.the-claims reads.Pre reads.Post tie.handed_clauses → Bool → List ℕ
+-- places of the code
+abbrev Start : Type 0
+Start = lts.Start tie.the-claims reads.Pre reads.Post tie.handed_clauses
+
+abbrev After-shared_slice_known4 : Type 0
+After-shared_slice_known4 = lts.After-shared_slice_known4 tie.the-claims reads.Pre reads.Post tie.handed_clauses
+
+abbrev slices : Start → Bool → List ℕ
 slices s = by_sign s.args.positives.now s.args.negatives.now
 
-abbrev Made : lts.Start tie.the-claims reads.Pre reads.Post tie.handed_clauses → Bool → (Bool → List ℕ) → Kept → Type 0
+abbrev Made : Start → Bool → (Bool → List ℕ) → Kept → Type 0
 Made s c s' k =
     let x = s.args in
     Filled (sort (before []) (conjunction_terms c (terms_of x.ap.now x.an.now) (terms_of x.bp.now x.bn.now))) (slices s) s' k
 
 -- what is made for the sign that it is
-made : (s : lts.Start tie.the-claims reads.Pre reads.Post tie.handed_clauses) (c : Bool) (s' : Bool → List ℕ) (k : Kept) → s.args.sign ≡ c → Made s c s' k → Made s s.args.sign s' k
+made : (s : Start) (c : Bool) (s' : Bool → List ℕ) (k : Kept) → s.args.sign ≡ c → Made s c s' k → Made s s.args.sign s' k
 made s c s' k e h = subst (λ (z : Bool). Made s z s' k) (sym e) h
 
-abbrev start : lts.After-shared_slice_known4 tie.the-claims reads.Pre reads.Post tie.handed_clauses → lts.Start tie.the-claims reads.Pre reads.Post tie.handed_clauses
+abbrev start : After-shared_slice_known4 → Start
 start p = p.before.before.before.before.before.before
 
 pub conjunction-requires : goal.conjunction-requires
-conjunction-requires c = let s = start c.before.before.before.before in record { negatives_len = s.requires.1; an_len = (s.requires.0.even-low, s.requires.0.even-high) }
+conjunction-requires c =
+    let s = start c.before.before.before.before in record {
+      negatives_len = s.requires.1;
+      an_len = (
+        s.requires.0.even-low,
+        s.requires.0.even-high,
+      );
+    }
 
 pub returns-then-sign : goal.returns-then-sign
 returns-then-sign c =

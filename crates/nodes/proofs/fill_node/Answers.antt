@@ -14,6 +14,22 @@ use Rattle.nodes.proofs.fill_node.Lts as lts
 use Rattle.nodes.proofs.fill_node.Reads as reads
 use Rattle.nodes.proofs.fill_node.Tie as tie
 
+-- places of the code
+abbrev After-child_at2 : Type 0
+After-child_at2 =
+    lts.After-child_at2 tie.the-claims reads.Pre reads.Post goal.the-invariant-loop-k goal.the-decreases-loop-k tie.handed_clauses
+
+abbrev Past-After-enum_told : Type 0
+Past-After-enum_told =
+    lts.Past-After-enum_told tie.the-claims reads.Pre reads.Post goal.the-invariant-loop-k goal.the-decreases-loop-k tie.handed_clauses
+
+abbrev Past-After-known_told : Type 0
+Past-After-known_told =
+    lts.Past-After-known_told tie.the-claims reads.Pre reads.Post goal.the-invariant-loop-k goal.the-decreases-loop-k tie.handed_clauses
+
+abbrev After-places : Type 0
+After-places = lts.After-places tie.the-claims reads.Pre reads.Post goal.the-invariant-loop-k goal.the-decreases-loop-k tie.handed_clauses
+
 abbrev Start : Type 0
 Start = lts.Start tie.the-claims reads.Pre reads.Post goal.the-invariant-loop-k goal.the-decreases-loop-k tie.handed_clauses
 
@@ -53,14 +69,14 @@ At l k = let s = start l in Making (lent s) (counts s) s.args.part k (now l) l.l
 this : (l : Loop) → 0 < l.loop-k.k → At l (suc (l.loop-k.k - 1))
 this l h = subst (At l) (place l h) l.loop-k.invariant.0
 
-tested : (p : lts.After-child_at2 tie.the-claims reads.Pre reads.Post goal.the-invariant-loop-k goal.the-decreases-loop-k tie.handed_clauses) → 0 < p.before.before.loop-k.k
+tested : (p : After-child_at2) → 0 < p.before.before.loop-k.k
 tested p = omega (arith, p.before.loop-k-test.true)
 
 -- the call of a turn that ends the loop, and of one that goes on
-abbrev over : lts.Past-After-enum_told tie.the-claims reads.Pre reads.Post goal.the-invariant-loop-k goal.the-decreases-loop-k tie.handed_clauses → Called
+abbrev over : Past-After-enum_told → Called
 over c = c.before.before.before.before.before.before.before.before.before.before.before.before.before
 
-abbrev goes : lts.Past-After-known_told tie.the-claims reads.Pre reads.Post goal.the-invariant-loop-k goal.the-decreases-loop-k tie.handed_clauses → Called
+abbrev goes : Past-After-known_told → Called
 goes c = c.before.before.before.before.before.before.before.before.before.before.before.before.before
 
 -- the buffers keep their lengths
@@ -76,7 +92,7 @@ has-place : (l : Loop)
 has-place l = let i = l.loop-k.invariant in rw (i.1, i.2, i.3, i.4) (start l).requires.has_place
 
 -- the place of the last child
-abbrev last : lts.After-places tie.the-claims reads.Pre reads.Post goal.the-invariant-loop-k goal.the-decreases-loop-k tie.handed_clauses → ℕ
+abbrev last : After-places → ℕ
 last c = c.places-k.result - 1
 
 pub overflow_sub-k : goal.overflow_sub-k
@@ -97,7 +113,8 @@ child_at-high-requires c =
 pub loop-k-init : goal.loop-k-init
 loop-k-init c =
     let s = c.before.before.before.before.before.before.before.before.before.before in (
-      making-start (lent s.before) (counts s.before) s.args.part s.requires.laid.0 s.requires.laid.1 (last c.before.before) c.child_at-high.result
+      making-start (lent s.before) (counts s.before) s.args.part s.requires.laid.0 s.requires.laid.1 (last c.before.before)
+          c.child_at-high.result
           (ap (λ (n : ℕ). n - 1) c.before.places-k.ensures) c.child_at-high.ensures.0 c.child_at-high.ensures.1,
       refl,
       refl,
@@ -110,7 +127,8 @@ child_at-requires c =
     let l = c.before in
     let s = start l.before in
     let few =
-    making-few (lent s) (counts s) s.args.part s.requires.laid.0 s.requires.laid.1 l.loop-k.k (now l.before) l.loop-k.high l.loop-k.invariant.0 in
+    making-few (lent s) (counts s) s.args.part s.requires.laid.0 s.requires.laid.1 l.loop-k.k (now l.before) l.loop-k.high
+    l.loop-k.invariant.0 in
     record {
       k_lt_max_children = (omega arith, s.requires.laid.0.words (l.loop-k.k - 1));
       counts_len_bound = (s.requires.laid.0.nodes, s.requires.laid.0.small);
@@ -126,7 +144,8 @@ fill_part-requires c =
     let low = call.child_at.result in
     let f = call.child_at.ensures.0 in
     let n = call.child_at.ensures.1 in
-    let r = turn-rooms (lent s) (counts s) x s.requires.laid.0 s.requires.laid.1 (l.loop-k.k - 1) (now l.before) l.loop-k.high j low f n in record {
+    let r = turn-rooms (lent s) (counts s) x s.requires.laid.0 s.requires.laid.1 (l.loop-k.k - 1) (now l.before) l.loop-k.high j
+    low f n in record {
       given =
           turn-given (lent s) (counts s) x s.requires.laid.0 s.requires.laid.1 (l.loop-k.k - 1) (now l.before) l.loop-k.high j low f n;
       capacity_le_max_capacity = (s.requires.laid.0.small, r.0, r.1, r.2, r.3, r.4, r.5);

@@ -17,74 +17,93 @@ use Rattle.nodes.proofs.fill_part.Lts as lts
 use Rattle.nodes.proofs.fill_part.Reads as reads
 use Rattle.nodes.proofs.fill_part.Tie as tie
 
+-- places of the code
+abbrev After-slice_known10 : Type 0
+After-slice_known10 = lts.After-slice_known10 tie.the-claims reads.Pre reads.Post tie.handed_clauses
+
+abbrev After-copy4 : Type 0
+After-copy4 = lts.After-copy4 tie.the-claims reads.Pre reads.Post tie.handed_clauses
+
+abbrev After-copy3 : Type 0
+After-copy3 = lts.After-copy3 tie.the-claims reads.Pre reads.Post tie.handed_clauses
+
+abbrev After-copy2 : Type 0
+After-copy2 = lts.After-copy2 tie.the-claims reads.Pre reads.Post tie.handed_clauses
+
+abbrev After-copy : Type 0
+After-copy = lts.After-copy tie.the-claims reads.Pre reads.Post tie.handed_clauses
+
+abbrev Start : Type 0
+Start = lts.Start tie.the-claims reads.Pre reads.Post tie.handed_clauses
+
 -- the four copies
-abbrev copy-bn : lts.After-slice_known10 tie.the-claims reads.Pre reads.Post tie.handed_clauses → lts.After-copy4 tie.the-claims reads.Pre reads.Post tie.handed_clauses
+abbrev copy-bn : After-slice_known10 → After-copy4
 copy-bn q = q.before.before
 
-abbrev copy-bp : lts.After-slice_known10 tie.the-claims reads.Pre reads.Post tie.handed_clauses → lts.After-copy3 tie.the-claims reads.Pre reads.Post tie.handed_clauses
+abbrev copy-bp : After-slice_known10 → After-copy3
 copy-bp q = (copy-bn q).before.before.before.before
 
-abbrev copy-an : lts.After-slice_known10 tie.the-claims reads.Pre reads.Post tie.handed_clauses → lts.After-copy2 tie.the-claims reads.Pre reads.Post tie.handed_clauses
+abbrev copy-an : After-slice_known10 → After-copy2
 copy-an q = (copy-bp q).before.before.before.before
 
-abbrev copy-ap : lts.After-slice_known10 tie.the-claims reads.Pre reads.Post tie.handed_clauses → lts.After-copy tie.the-claims reads.Pre reads.Post tie.handed_clauses
+abbrev copy-ap : After-slice_known10 → After-copy
 copy-ap q = (copy-an q).before.before.before.before
 
-abbrev at_first : lts.After-copy tie.the-claims reads.Pre reads.Post tie.handed_clauses → lts.Start tie.the-claims reads.Pre reads.Post tie.handed_clauses
+abbrev at_first : After-copy → Start
 at_first c = c.before.before.before.before.before.before.before.before.before.before.before
 
-abbrev at-third : lts.After-copy3 tie.the-claims reads.Pre reads.Post tie.handed_clauses → lts.Start tie.the-claims reads.Pre reads.Post tie.handed_clauses
+abbrev at-third : After-copy3 → Start
 at-third c = at_first c.before.before.before.before.before.before.before.before
 
-abbrev start : lts.After-slice_known10 tie.the-claims reads.Pre reads.Post tie.handed_clauses → lts.Start tie.the-claims reads.Pre reads.Post tie.handed_clauses
+abbrev start : After-slice_known10 → Start
 start q = at_first (copy-ap q)
 
 -- each scratch slice has place for the terms that were copied, and its front holds just them
-long-ap : (q : lts.After-slice_known10 tie.the-claims reads.Pre reads.Post tie.handed_clauses) → (start q).args.part.low.count ≤ length (copy-ap q).copy.new.to
+long-ap : (q : After-slice_known10) → (start q).args.part.low.count ≤ length (copy-ap q).copy.new.to
 long-ap q = let s = start q in omega (arith, s.requires.capacity_le_max_capacity.1, s.requires.has_place.0, (copy-ap q).copy.auto.to)
 
-long-an : (q : lts.After-slice_known10 tie.the-claims reads.Pre reads.Post tie.handed_clauses) → (start q).args.part.low.count ≤ length (copy-an q).copy-2.new.to
+long-an : (q : After-slice_known10) → (start q).args.part.low.count ≤ length (copy-an q).copy-2.new.to
 long-an q = let s = start q in omega (arith, s.requires.capacity_le_max_capacity.1, s.requires.has_place.1, (copy-an q).copy-2.auto.to)
 
-long-bp : (q : lts.After-slice_known10 tie.the-claims reads.Pre reads.Post tie.handed_clauses) → (start q).args.part.high.count ≤ length (copy-bp q).copy-3.new.to
+long-bp : (q : After-slice_known10) → (start q).args.part.high.count ≤ length (copy-bp q).copy-3.new.to
 long-bp q = let s = start q in omega (arith, s.requires.capacity_le_max_capacity.2, s.requires.has_place.2, (copy-bp q).copy-3.auto.to)
 
-long-bn : (q : lts.After-slice_known10 tie.the-claims reads.Pre reads.Post tie.handed_clauses) → (start q).args.part.high.count ≤ length (copy-bn q).copy-4.new.to
+long-bn : (q : After-slice_known10) → (start q).args.part.high.count ≤ length (copy-bn q).copy-4.new.to
 long-bn q = let s = start q in omega (arith, s.requires.capacity_le_max_capacity.2, s.requires.has_place.3, (copy-bn q).copy-4.auto.to)
 
-front-ap : (q : lts.After-slice_known10 tie.the-claims reads.Pre reads.Post tie.handed_clauses)
+front-ap : (q : After-slice_known10)
     → length (take (start q).args.part.low.count (copy-ap q).copy.new.to) ≡ (start q).args.part.low.count
 front-ap q = length-take-le (start q).args.part.low.count (copy-ap q).copy.new.to (long-ap q)
 
-front-an : (q : lts.After-slice_known10 tie.the-claims reads.Pre reads.Post tie.handed_clauses)
+front-an : (q : After-slice_known10)
     → length (take (start q).args.part.low.count (copy-an q).copy-2.new.to) ≡ (start q).args.part.low.count
 front-an q = length-take-le (start q).args.part.low.count (copy-an q).copy-2.new.to (long-an q)
 
-front-bp : (q : lts.After-slice_known10 tie.the-claims reads.Pre reads.Post tie.handed_clauses)
+front-bp : (q : After-slice_known10)
     → length (take (start q).args.part.high.count (copy-bp q).copy-3.new.to) ≡ (start q).args.part.high.count
 front-bp q = length-take-le (start q).args.part.high.count (copy-bp q).copy-3.new.to (long-bp q)
 
-front-bn : (q : lts.After-slice_known10 tie.the-claims reads.Pre reads.Post tie.handed_clauses)
+front-bn : (q : After-slice_known10)
     → length (take (start q).args.part.high.count (copy-bn q).copy-4.new.to) ≡ (start q).args.part.high.count
 front-bn q = length-take-le (start q).args.part.high.count (copy-bn q).copy-4.new.to (long-bn q)
 
 -- the buffers, and the node's part of them
-abbrev slices : lts.Start tie.the-claims reads.Pre reads.Post tie.handed_clauses → Bool → List ℕ
+abbrev slices : Start → Bool → List ℕ
 slices s = by_sign s.args.positives.now s.args.negatives.now
 
-evens : (s : lts.Start tie.the-claims reads.Pre reads.Post tie.handed_clauses) → Even (slices s)
+evens : (s : Start) → Even (slices s)
 evens s = even s.args.positives.now s.args.negatives.now s.requires.capacity_le_max_capacity.6
 
-size : (s : lts.Start tie.the-claims reads.Pre reads.Post tie.handed_clauses) → s.args.part.at + s.args.part.capacity - s.args.part.at ≡ s.args.part.capacity
+size : (s : Start) → s.args.part.at + s.args.part.capacity - s.args.part.at ≡ s.args.part.capacity
 size s = omega arith
 
-abbrev part : lts.Start tie.the-claims reads.Pre reads.Post tie.handed_clauses → Bool → List ℕ
+abbrev part : Start → Bool → List ℕ
 part s b = take (s.args.part.at + s.args.part.capacity - s.args.part.at) (drop s.args.part.at (slices s b))
 
-part-is : (s : lts.Start tie.the-claims reads.Pre reads.Post tie.handed_clauses) (b : Bool) → part s b ≡ take s.args.part.capacity (drop s.args.part.at (slices s b))
+part-is : (s : Start) (b : Bool) → part s b ≡ take s.args.part.capacity (drop s.args.part.at (slices s b))
 part-is s b = ap (λ (n : ℕ). take n (drop s.args.part.at (slices s b))) (size s)
 
-part-size : (s : lts.Start tie.the-claims reads.Pre reads.Post tie.handed_clauses) (b : Bool) → length (part s b) ≡ s.args.part.capacity
+part-size : (s : Start) (b : Bool) → length (part s b) ≡ s.args.part.capacity
 part-size s b =
     ap length (part-is s b)
     ∙ length_part s.args.part.at s.args.part.capacity (slices s b) (rw (evens s b) s.requires.capacity_le_max_capacity.5)

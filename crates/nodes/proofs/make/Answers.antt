@@ -16,26 +16,33 @@ use Rattle.nodes.proofs.make.Lts as lts
 use Rattle.nodes.proofs.make.Reads as reads
 use Rattle.nodes.proofs.make.Tie as tie
 
-abbrev slices : lts.Start tie.the-claims reads.Pre reads.Post tie.handed_clauses → Bool → List ℕ
+-- places of the code
+abbrev Start : Type 0
+Start = lts.Start tie.the-claims reads.Pre reads.Post tie.handed_clauses
+
+abbrev After-shared_slice_known4 : Type 0
+After-shared_slice_known4 = lts.After-shared_slice_known4 tie.the-claims reads.Pre reads.Post tie.handed_clauses
+
+abbrev slices : Start → Bool → List ℕ
 slices s = by_sign s.args.positives.now s.args.negatives.now
 
-abbrev Made : lts.Start tie.the-claims reads.Pre reads.Post tie.handed_clauses → Gate → (Bool → List ℕ) → Kept → Type 0
+abbrev Made : Start → Gate → (Bool → List ℕ) → Kept → Type 0
 Made s g s' k =
     let x = s.args in
     Filled (gate_made x.sign g (terms_of x.ap.now x.an.now) (terms_of x.bp.now x.bn.now)) (slices s) s' k
 
 -- what is made for the gate that it is
-made : (s : lts.Start tie.the-claims reads.Pre reads.Post tie.handed_clauses) (g : Gate) (s' : Bool → List ℕ) (k : Kept) → s.args.gate ≡ g → Made s g s' k → Made s s.args.gate s' k
+made : (s : Start) (g : Gate) (s' : Bool → List ℕ) (k : Kept) → s.args.gate ≡ g → Made s g s' k → Made s s.args.gate s' k
 made s g s' k e h = subst (λ (z : Gate). Made s z s' k) (sym e) h
 
 -- what is given for it
-given : (s : lts.Start tie.the-claims reads.Pre reads.Post tie.handed_clauses) (g : Gate) → s.args.gate ≡ g
+given : (s : Start) (g : Gate) → s.args.gate ≡ g
     → let x = s.args in Given g x.ap.now x.an.now x.bp.now x.bn.now
 given s g e =
     let x = s.args in
     subst (λ (z : Gate). Given z x.ap.now x.an.now x.bp.now x.bn.now) e s.requires.given
 
-abbrev start : lts.After-shared_slice_known4 tie.the-claims reads.Pre reads.Post tie.handed_clauses → lts.Start tie.the-claims reads.Pre reads.Post tie.handed_clauses
+abbrev start : After-shared_slice_known4 → Start
 start p = p.before.before.before.before.before.before
 
 pub literal-requires : goal.literal-requires

@@ -20,8 +20,10 @@ loop-k-preserved c =
     λ b e. kept_next (free x.t) x.positives.now x.negatives.now c.requires.1 k b (omega arith)
     (ap (free x.t) (sym c.term_at-u.ensures) ∙ sym (ap not c.conflict.ensures) ∙ ap not e ∙ not-not b) in
     elim c.if-not-conflict.branch [
-      | then-not-conflict w ↦ let n = counted true w.if-not-conflict.true in (omega arith, omega arith, omega (arith, n, c.loop-k.invariant.2))
-      | else-not-conflict w ↦ let n = counted false w.if-not-conflict.false in (omega arith, omega arith, omega (arith, n, c.loop-k.invariant.2))
+      | then-not-conflict w ↦ let n = counted true w.if-not-conflict.true in
+          (omega arith, omega arith, omega (arith, n, c.loop-k.invariant.2))
+      | else-not-conflict w ↦ let n = counted false w.if-not-conflict.false in
+          (omega arith, omega arith, omega (arith, n, c.loop-k.invariant.2))
     ]
   where
     not-not : (b : Bool) → not (not b) ≡ b

@@ -29,10 +29,26 @@ use Rattle.walk.proofs.judge_steps.Lts as lts
 use Rattle.walk.proofs.judge_steps.Reads as reads
 use Rattle.walk.proofs.judge_steps.Tie as tie
 
+-- places of the code
+abbrev Start : Type 0
+Start = lts.Start tie.the-claims reads.Pre reads.Post goal.the-invariant-loop-i goal.the-decreases-loop-i
+
+abbrev In-loop : Type 0
+In-loop = lts.In-loop tie.the-claims reads.Pre reads.Post goal.the-invariant-loop-i goal.the-decreases-loop-i
+
+abbrev After-with_state : Type 0
+After-with_state = lts.After-with_state tie.the-claims reads.Pre reads.Post goal.the-invariant-loop-i goal.the-decreases-loop-i
+
+abbrev After-status_under : Type 0
+After-status_under = lts.After-status_under tie.the-claims reads.Pre reads.Post goal.the-invariant-loop-i goal.the-decreases-loop-i
+
+abbrev After-count_compatible : Type 0
+After-count_compatible = lts.After-count_compatible tie.the-claims reads.Pre reads.Post goal.the-invariant-loop-i goal.the-decreases-loop-i
+
 abbrev Loop : Type 0
 Loop = lts.At-loop tie.the-claims reads.Pre reads.Post goal.the-invariant-loop-i goal.the-decreases-loop-i
 
-abbrev start : Loop → lts.Start tie.the-claims reads.Pre reads.Post goal.the-invariant-loop-i goal.the-decreases-loop-i
+abbrev start : Loop → Start
 start a = a.before.before.before.before.before.before.before
 
 abbrev N : Loop → ℕ
@@ -63,7 +79,7 @@ compatibles-length a =
     (omega (arith, a.loop-i.invariant.0, (start a).requires.steps.even)) a.loop-i.invariant.3
 
 -- ---- the step of a turn
-module _ (w : lts.In-loop tie.the-claims reads.Pre reads.Post goal.the-invariant-loop-i goal.the-decreases-loop-i) where
+module _ (w : In-loop) where
   abbrev turn : Loop
   turn = w.before
 
@@ -80,10 +96,10 @@ module _ (w : lts.In-loop tie.the-claims reads.Pre reads.Post goal.the-invariant
   named = variable-inside (N turn) (columns turn) (length (statuses turn)) i tested (start turn).requires.steps.good
 
 -- what is known after it
-abbrev entered : lts.After-with_state tie.the-claims reads.Pre reads.Post goal.the-invariant-loop-i goal.the-decreases-loop-i → lts.In-loop tie.the-claims reads.Pre reads.Post goal.the-invariant-loop-i goal.the-decreases-loop-i
+abbrev entered : After-with_state → In-loop
 entered p = p.before.before.before.before
 
-next : (p : lts.After-with_state tie.the-claims reads.Pre reads.Post goal.the-invariant-loop-i goal.the-decreases-loop-i)
+next : (p : After-with_state)
     → let a = turn (entered p) in p.with_state-known.result ≡ known (N a) (steps_in (columns a) (a.loop-i.i + 1))
 next p =
     let w = entered p in
@@ -94,7 +110,7 @@ next p =
     ∙ known_more (N a) (columns a) (i w) (held w) (named w)
 
 -- its status, and how many prime implicants of the circuit do not conflict with it
-judged : (u : lts.After-status_under tie.the-claims reads.Pre reads.Post goal.the-invariant-loop-i goal.the-decreases-loop-i)
+judged : (u : After-status_under)
     → let a = turn (entered u.before) in
     u.status_under.result ≡ status (N a) (f a) (known (N a) (steps_in (columns a) (a.loop-i.i + 1)))
 judged u =
@@ -102,7 +118,7 @@ judged u =
     let g : Term → ℕ = status (N a) (f a) in
     ◌∙◌ {b = g u.before.with_state-known.result} u.status_under.ensures (ap g (next u.before))
 
-counted : (d : lts.After-count_compatible tie.the-claims reads.Pre reads.Post goal.the-invariant-loop-i goal.the-decreases-loop-i)
+counted : (d : After-count_compatible)
     → let a = turn (entered d.before.before) in
     d.count_compatible.result ≡ compatible (N a) (f a) (known (N a) (steps_in (columns a) (a.loop-i.i + 1)))
 counted d =
@@ -211,8 +227,10 @@ returns c =
     let k : ℕ = length (statuses a.before) in
     record {
       statuses =
-          written_all (N a.before) (status (N a.before) (f a.before)) (columns a.before) (statuses a.before) a.loop-i.i k a.loop-i.statuses e refl a.loop-i.invariant.2;
+          written_all (N a.before) (status (N a.before) (f a.before)) (columns a.before) (statuses a.before) a.loop-i.i k
+          a.loop-i.statuses e refl a.loop-i.invariant.2;
       compatibles =
-          written_all (N a.before) (compatible (N a.before) (f a.before)) (columns a.before) (compatibles a.before) a.loop-i.i k a.loop-i.compatibles e
+          written_all (N a.before) (compatible (N a.before) (f a.before)) (columns a.before) (compatibles a.before) a.loop-i.i k
+          a.loop-i.compatibles e
           (start a.before).requires.steps.even a.loop-i.invariant.3;
     }

@@ -23,7 +23,23 @@ use Rattle.walk.proofs.walk_accepted.Lts as lts
 use Rattle.walk.proofs.walk_accepted.Reads as reads
 use Rattle.walk.proofs.walk_accepted.Tie as tie
 
-module _ (s : lts.Start tie.the-claims reads.Pre reads.Post tie.handed_clauses) where
+-- places of the code
+abbrev Start : Type 0
+Start = lts.Start tie.the-claims reads.Pre reads.Post tie.handed_clauses
+
+abbrev After-shared_slice_known2 : Type 0
+After-shared_slice_known2 = lts.After-shared_slice_known2 tie.the-claims reads.Pre reads.Post tie.handed_clauses
+
+abbrev After-list_accepted : Type 0
+After-list_accepted = lts.After-list_accepted tie.the-claims reads.Pre reads.Post tie.handed_clauses
+
+abbrev Else1 : Type 0
+Else1 = lts.Else1 tie.the-claims reads.Pre reads.Post tie.handed_clauses
+
+abbrev Past-After-enum_told : Type 0
+Past-After-enum_told = lts.Past-After-enum_told tie.the-claims reads.Pre reads.Post tie.handed_clauses
+
+module _ (s : Start) where
   abbrev steps : List Step
   steps = steps_in s.args.plan.columns s.args.k
 
@@ -42,7 +58,7 @@ module _ (s : lts.Start tie.the-claims reads.Pre reads.Post tie.handed_clauses) 
       → steps_fit steps buffers ≡ not b
   tested b e = fits_by steps buffers s.args.k count b e
 
-abbrev start : lts.After-shared_slice_known2 tie.the-claims reads.Pre reads.Post tie.handed_clauses → lts.Start tie.the-claims reads.Pre reads.Post tie.handed_clauses
+abbrev start : After-shared_slice_known2 → Start
 start p = p.before.before.before.before.before.before.before
 
 pub returns-then-statuses-k : goal.returns-then-statuses-k
@@ -53,11 +69,11 @@ returns-then-statuses-k c =
     s.requires.1 (tested s true c.if-statuses-k.true)
 
 -- ---- after the listing
-module _ (p : lts.After-list_accepted tie.the-claims reads.Pre reads.Post tie.handed_clauses) where
-  abbrev goes : lts.Else1 tie.the-claims reads.Pre reads.Post tie.handed_clauses
+module _ (p : After-list_accepted) where
+  abbrev goes : Else1
   goes = p.before.before.before.before
 
-  abbrev first : lts.Start tie.the-claims reads.Pre reads.Post tie.handed_clauses
+  abbrev first : Start
   first = start goes.before
 
   abbrev listing : Lent
@@ -77,10 +93,10 @@ module _ (p : lts.After-list_accepted tie.the-claims reads.Pre reads.Post tie.ha
   compatibles-size = length-take-le first.args.k first.args.compatibles.now room.1
 
 -- the listing was done
-abbrev done : lts.Past-After-enum_told tie.the-claims reads.Pre reads.Post tie.handed_clauses → lts.After-list_accepted tie.the-claims reads.Pre reads.Post tie.handed_clauses
+abbrev done : Past-After-enum_told → After-list_accepted
 done e = e.before.before.before.before.before.before.before
 
-listed : (e : lts.Past-After-enum_told tie.the-claims reads.Pre reads.Post tie.handed_clauses)
+listed : (e : Past-After-enum_told)
     → let p = done e in
     let x = (first p).args in
     ListResult true x.weights.now x.plan.variables x.plan.nodes x.words.now x.capacity (rows (first p)) (listing p)
@@ -106,7 +122,7 @@ slice_bounds-walk_listed-end-in-Listed-3 c = sym (compatibles-size (done c.befor
 
 pub walk_listed-requires : goal.walk_listed-requires
 walk_listed-requires c =
-    let e : lts.Past-After-enum_told tie.the-claims reads.Pre reads.Post tie.handed_clauses = c.before.before.before in
+    let e : Past-After-enum_told = c.before.before.before in
     let p = done e in
     let s = first p in
     let x = s.args in
@@ -119,7 +135,7 @@ walk_listed-requires c =
 pub returns-in-Refused : goal.returns-in-Refused
 returns-in-Refused c =
     let r = c.before in
-    let p : lts.After-list_accepted tie.the-claims reads.Pre reads.Post tie.handed_clauses = r.before.before.before.before.before.before.before in
+    let p : After-list_accepted = r.before.before.before.before.before.before.before in
     let s = first p in
     let x = s.args in
     walks-lack x.weights.now x.plan.variables x.plan.nodes x.words.now x.capacity (steps s) (buffers s) s.requires.0
@@ -128,7 +144,7 @@ returns-in-Refused c =
 pub returns-in-Listed : goal.returns-in-Listed
 returns-in-Listed c =
     let q = c.before.before.before.before in
-    let e : lts.Past-After-enum_told tie.the-claims reads.Pre reads.Post tie.handed_clauses = q.before.before.before.before in
+    let e : Past-After-enum_told = q.before.before.before.before in
     let p = done e in
     let s = first p in
     let x = s.args in

@@ -20,10 +20,17 @@ use Rattle.walk.proofs.walk_listed.Lts as lts
 use Rattle.walk.proofs.walk_listed.Reads as reads
 use Rattle.walk.proofs.walk_listed.Tie as tie
 
-abbrev start : lts.After-struct_known tie.the-claims reads.Pre reads.Post tie.handed_clauses → lts.Start tie.the-claims reads.Pre reads.Post tie.handed_clauses
+-- places of the code
+abbrev After-struct_known : Type 0
+After-struct_known = lts.After-struct_known tie.the-claims reads.Pre reads.Post tie.handed_clauses
+
+abbrev Start : Type 0
+Start = lts.Start tie.the-claims reads.Pre reads.Post tie.handed_clauses
+
+abbrev start : After-struct_known → Start
 start p = p.before.before.before.before.before.before.before
 
-module _ (s : lts.Start tie.the-claims reads.Pre reads.Post tie.handed_clauses) where
+module _ (s : Start) where
   abbrev n : ℕ
   n = s.args.plan.nodes
 

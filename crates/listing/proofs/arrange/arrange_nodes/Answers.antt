@@ -72,7 +72,8 @@ module _ (a : Loop) where
 
   sizes : (b : Bool) → length (now b) ≡ n start * R start
   sizes b =
-      arranged-length (m start) (holds start) a.loop-i.i now a.loop-i.invariant.0 (a.loop-i.invariant.2 start.requires.unarranged.listed (holds start)) b
+      arranged-length (m start) (holds start) a.loop-i.i now a.loop-i.invariant.0 (a.loop-i.invariant.2
+      start.requires.unarranged.listed (holds start)) b
 
   module _ (lt : a.loop-i.i < n start) where
     abbrev at : ℕ

@@ -15,8 +15,10 @@ use Rattle.listing.proofs.arrange.arrange_nodes.Given as goal
 abbrev pub invariant-loop-i : goal.invariant-loop-i
 invariant-loop-i l =
     (l.i ≤ l.shape.nodes) × Sums l.weights l.sums
-    × ((F : ℕ → ℕ → Bool) → Holds [] l.shape.variables l.shape.nodes F l.shape.capacity (by_sign l.initial.positives l.initial.negatives) l.counts
-    → ArrangedTo l.weights l.shape.variables F l.shape.capacity (by_sign l.initial.positives l.initial.negatives) l.i (by_sign l.positives l.negatives))
+    × ((F : ℕ → ℕ → Bool) → Holds [] l.shape.variables l.shape.nodes F l.shape.capacity (by_sign l.initial.positives
+    l.initial.negatives) l.counts
+    → ArrangedTo l.weights l.shape.variables F l.shape.capacity (by_sign l.initial.positives l.initial.negatives) l.i (by_sign
+    l.positives l.negatives))
     × ((length l.keys ≡ length l.initial.keys) × (length l.spare ≡ length l.initial.spare) × (length l.copy ≡ length l.initial.copy))
 
 abbrev pub decreases-loop-i : goal.decreases-loop-i

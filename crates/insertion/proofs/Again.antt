@@ -6,11 +6,10 @@ use mathlib.Core.List.{List, ◌++◌}
 use native.Mathlib.Omega.{arith}
 use lib.ListN.{length, take, drop, length-append, length-drop}
 use lib.Seq.{take_at, drop_at, drop-drop}
+use Rattle.std.specs.Prelude.{Option, Some}
 use Rattle.terms.specs.Term.{terms_of}
 use Rattle.terms.specs.declared.Term.{Term}
 use Rattle.insertion.specs.Filled.{held, masks_of, kept_of, Filled}
-use Rattle.insertion.specs.declared.Kept.{Kept}
-use Rattle.insertion.specs.declared.Kept.TheVariants.{Count}
 use Rattle.insertion.proofs.Parts.{terms-masks, length-masks, Even, kept-count}
 
 drop_more : (a b : ℕ) (x y : List ℕ) → a ≤ b → drop a x ≡ drop a y → drop b x ≡ drop b y
@@ -20,7 +19,7 @@ drop_more a b x y h e =
     ∙ ap (λ (k : ℕ). drop k y) (sym n)
 
 -- ---- the list m was made in the front of s₀, which is s then
-module _ (m : List Term) (s₀ s : Bool → List ℕ) (ev : Even s₀) (c : ℕ) (f : Filled m s₀ s (Count c)) where
+module _ (m : List Term) (s₀ s : Bool → List ℕ) (ev : Even s₀) (c : ℕ) (f : Filled m s₀ s (Some c)) where
   told : (length m ≤ length (s₀ true)) × (c ≡ length m)
   told = kept-count (length (s₀ true)) m c f.answer
 
@@ -48,7 +47,7 @@ module _ (m : List Term) (s₀ s : Bool → List ℕ) (ev : Even s₀) (c : ℕ)
       front b = ap (take c) (is-laid b) ∙ take_at (masks_of b m) (drop c (s₀ b)) c (size b)
 
   -- a longer list made after it is made in s₀
-  pub filled-then : (l : List Term) (s' : Bool → List ℕ) (k : Kept) → length m ≤ length l → Filled l s s' k → Filled l s₀ s' k
+  pub filled-then : (l : List Term) (s' : Bool → List ℕ) (k : Option ℕ) → length m ≤ length l → Filled l s s' k → Filled l s₀ s' k
   filled-then l s' k more g =
       record {
         answer = g.answer ∙ ap (λ (n : ℕ). kept_of n l) (filled-length true);

@@ -9,14 +9,13 @@ use lib.Dec.{leb}
 use lib.ListN.{length, take, drop, length-map, take-append-drop}
 use lib.Seq.{length-take-le}
 use borrow.Author.Tests.{leb-true, leb-false, le-leb, lt-leb}
+use Rattle.std.specs.Prelude.{Some, None, Err}
 use Rattle.terms.specs.Lists.{insert}
 use Rattle.terms.specs.Order.{before}
 use Rattle.terms.specs.Term.{mask, terms_of}
 use Rattle.terms.specs.declared.Term.{Term}
 use Rattle.lists.proofs.Parts.{length-terms}
 use Rattle.insertion.specs.Filled.{insert_at, Placed, by_sign, held, masks_of, kept_of, Filled}
-use Rattle.insertion.specs.declared.Kept.TheVariants.{Count, Full}
-use Rattle.insertion.specs.declared.Place.TheVariants.{At}
 use Rattle.insertion.proofs.Inserted.{length-insert_at, map-insert_at}
 
 masks-terms : (b : Bool) (ps ns : List ℕ) → length ns ≡ length ps → masks_of b (terms_of ps ns) ≡ by_sign ps ns b
@@ -55,72 +54,72 @@ module _ (s : Bool → List ℕ) (ev : Even s) (count : ℕ) (h : count ≤ leng
   masks-held false = masks-terms false (take count (s true)) (take count (s false)) (part false ∙ sym (part true))
 
 -- ---- what an answer says of the capacity
-pub kept-count : (capacity : ℕ) (l : List Term) (c : ℕ) → Count c ≡ kept_of capacity l → (length l ≤ capacity) × (c ≡ length l)
+pub kept-count : (capacity : ℕ) (l : List Term) (c : ℕ) → Some c ≡ kept_of capacity l → (length l ≤ capacity) × (c ≡ length l)
 kept-count capacity l c e = go (leb (length l) capacity) refl e
   where
-    go : (b : Bool) → leb (length l) capacity ≡ b → Count c ≡ cond b (Count (length l)) Full → (length l ≤ capacity) × (c ≡ length l)
+    go : (b : Bool) → leb (length l) capacity ≡ b → Some c ≡ cond b (Some (length l)) None → (length l ≤ capacity) × (c ≡ length l)
     go true q e = (leb-true (length l) capacity q, cc)
-    go false q e = let z : ◌≡◌ {A = ℕ} 0 1 = cc in absurd (omega arith)
+    go false q e = absurd cc
 
-pub kept_full : (capacity : ℕ) (l : List Term) → Full ≡ kept_of capacity l → capacity < length l
+pub kept_full : (capacity : ℕ) (l : List Term) → None ≡ kept_of capacity l → capacity < length l
 kept_full capacity l e = go (leb (length l) capacity) refl e
   where
-    go : (b : Bool) → leb (length l) capacity ≡ b → Full ≡ cond b (Count (length l)) Full → capacity < length l
-    go true q e = let z : ◌≡◌ {A = ℕ} 0 1 = cc in absurd (omega arith)
+    go : (b : Bool) → leb (length l) capacity ≡ b → None ≡ cond b (Some (length l)) None → capacity < length l
+    go true q e = absurd cc
     go false q e = leb-false (length l) capacity q
 
 -- and the other way round
-pub count_kept : (capacity : ℕ) (l : List Term) → length l ≤ capacity → Count (length l) ≡ kept_of capacity l
-count_kept capacity l h = ap (λ (t : Bool). cond t (Count (length l)) Full) (sym (le-leb (length l) capacity h))
+pub count_kept : (capacity : ℕ) (l : List Term) → length l ≤ capacity → Some (length l) ≡ kept_of capacity l
+count_kept capacity l h = ap (λ (t : Bool). cond t (Some (length l)) None) (sym (le-leb (length l) capacity h))
 
-pub full-kept : (capacity : ℕ) (l : List Term) → capacity < length l → Full ≡ kept_of capacity l
-full-kept capacity l h = ap (λ (t : Bool). cond t (Count (length l)) Full) (sym (lt-leb (length l) capacity h))
+pub full-kept : (capacity : ℕ) (l : List Term) → capacity < length l → None ≡ kept_of capacity l
+full-kept capacity l h = ap (λ (t : Bool). cond t (Some (length l)) None) (sym (lt-leb (length l) capacity h))
 
 -- ---- a list that was made, or does not fit
 module _ (l : List Term) (s s' : Bool → List ℕ) where
   pub filled-count : (n : ℕ) → length l ≡ n → n ≤ length (s true) → ((b : Bool) → s' b ≡ masks_of b l ++ drop n (s b))
-      → Filled l s s' (Count n)
+      → Filled l s s' (Some n)
   filled-count n e h m =
       record {
         answer =
-            sym (ap (λ (k : ℕ). cond (leb k (length (s true))) (Count k) Full) e
-            ∙ ap (λ (b : Bool). cond b (Count n) Full) (le-leb n (length (s true)) h));
+            sym (ap (λ (k : ℕ). cond (leb k (length (s true))) (Some k) None) e
+            ∙ ap (λ (b : Bool). cond b (Some n) None) (le-leb n (length (s true)) h));
         masks = λ _ b. m b ∙ ap (λ (k : ℕ). masks_of b l ++ drop k (s b)) (sym (length-masks b l ∙ e));
       }
 
-  pub filled-full : length (s true) < length l → Filled l s s' Full
+  pub filled-full : length (s true) < length l → Filled l s s' None
   filled-full h =
       record {
-        answer = sym (ap (λ (b : Bool). cond b (Count (length l)) Full) (lt-leb (length l) (length (s true)) h));
+        answer = sym (ap (λ (b : Bool). cond b (Some (length l)) None) (lt-leb (length l) (length (s true)) h));
         masks = λ k b. absurd (omega arith);
       }
 
 module _ (s : Bool → List ℕ) (ev : Even s) (count : ℕ) (h : count ≤ length (s true)) where
-  pub filled_none : Filled (held s count) s s (Count count)
+  pub filled_none : Filled (held s count) s s (Some count)
   filled_none =
       filled-count (held s count) s s count (length-held s ev count h) h
       (λ b. sym (ap (λ (z : List ℕ). z ++ drop count (s b)) (masks-held s ev count h b) ∙ take-append-drop count (s b)))
 
   -- ---- what an insertion leaves
   module _ (t : Term) where
-    pub filled-present : insert (before []) t (held s count) ≡ held s count → Filled (insert (before []) t (held s count)) s s (Count count)
-    filled-present e = subst (λ (l : List Term). Filled l s s (Count count)) (sym e) filled_none
+    pub filled-present : insert (before []) t (held s count) ≡ held s count → Filled (insert (before []) t (held s count)) s s (Some count)
+    filled-present e = subst (λ (l : List Term). Filled l s s (Some count)) (sym e) filled_none
 
-    module _ (k : ℕ) (p : Placed t (held s count) (At k)) where
+    module _ (k : ℕ) (p : Placed t (held s count) (Err k)) where
       length-put : length (insert_at k t (held s count)) ≡ count + 1
       length-put = length-insert_at k t (held s count) ∙ ap suc (length-held s ev count h) ∙ sym (add-one count)
 
       pub filled_at : (s' : Bool → List ℕ) → count < length (s true)
           → ((b : Bool) → s' b ≡ insert_at k (mask t b) (take count (s b)) ++ drop (count + 1) (s b))
-          → Filled (insert (before []) t (held s count)) s s' (Count (count + 1))
+          → Filled (insert (before []) t (held s count)) s s' (Some (count + 1))
       filled_at s' lt m =
-          subst (λ (l : List Term). Filled l s s' (Count (count + 1))) (sym p.1)
+          subst (λ (l : List Term). Filled l s s' (Some (count + 1))) (sym p.1)
           (filled-count (insert_at k t (held s count)) s s' (count + 1) length-put (omega arith)
           (λ b. m b
           ∙ ap (λ (z : List ℕ). z ++ drop (count + 1) (s b))
           (sym (map-insert_at (λ t. mask t b) k t (held s count) ∙ ap (insert_at k (mask t b)) (masks-held s ev count h b)))))
 
-      pub filled-over : length (s true) ≤ count → Filled (insert (before []) t (held s count)) s s Full
+      pub filled-over : length (s true) ≤ count → Filled (insert (before []) t (held s count)) s s None
       filled-over le =
-          subst (λ (l : List Term). Filled l s s Full) (sym p.1)
+          subst (λ (l : List Term). Filled l s s None) (sym p.1)
           (filled-full (insert_at k t (held s count)) s s (omega (arith, length-put)))

@@ -1,11 +1,9 @@
 -- Lists of terms as the code holds them, and the searches in them. No public contract rests on these.
-use Rattle.std.specs.Prelude.{ℕ, ◌≡◌, Bool, true, false, ◌&&◌, not, cond, List, ltb, length, get_or}
+use Rattle.std.specs.Prelude.{ℕ, ◌≡◌, Bool, true, false, ◌&&◌, not, cond, List, ltb, length, get_or, Option, Some, None}
 use Rattle.std.specs.Int.Bits.{bit_and}
 use Rattle.terms.specs.Lists.{any}
 use Rattle.terms.specs.Term.{terms_of, term, join, inside}
 use Rattle.terms.specs.declared.Term.{Term}
-use Rattle.lists.specs.declared.Shorter.{Shorter}
-use Rattle.lists.specs.declared.Shorter.TheVariants.{None, At}
 
 -- term k of a list
 abbrev pub term_at : List ℕ → List ℕ → ℕ → Term
@@ -28,9 +26,9 @@ abbrev pub shorter_at : List ℕ → List ℕ → List ℕ → List ℕ → ℕ 
 shorter_at ap an bp bn k l t = (ltb k (length ap) && ltb l (length bp)) && shorter t (term_at ap an k) (term_at bp bn l)
 
 -- what a search for such a pair finds: that there is none, or the places of one
-abbrev pub Found : List ℕ → List ℕ → List ℕ → List ℕ → Term → Shorter → Type 0
+abbrev pub Found : List ℕ → List ℕ → List ℕ → List ℕ → Term → Option (ℕ × ℕ) → Type 0
 Found ap an bp bn t None = shorter_join (terms_of ap an) (terms_of bp bn) t ≡ false
-Found ap an bp bn t (At k l) = shorter_at ap an bp bn k l t ≡ true
+Found ap an bp bn t (Some p) = shorter_at ap an bp bn p.0 p.1 t ≡ true
 
 -- the literals of c that b has too, if b is inside t; else all of c's
 unfoldable pub narrowed : Term → Term → Term → Term

@@ -9,13 +9,6 @@ use terms::Term;
 // How many terms of a node there may be room for.
 pub const MAX_CAPACITY: u32 = 4096;
 
-// The places of two terms whose join is shorter, or that there are none.
-#[derive(Clone, Copy)]
-pub enum Shorter {
-    None,
-    At(usize, usize),
-}
-
 // Term k of the list.
 pub fn term_at(positives: &[u64], negatives: &[u64], k: usize) -> Term
     requires { (k < length positives.now) × (k < length negatives.now) }
@@ -53,30 +46,30 @@ fn narrow(t: Term, c: Term, b: Term) -> Term
 // The places of a term of the list a and of one of the list b that are inside t and whose join lacks a literal of t. Once the inner
 // loop found none, it is entered again only where it finds one: the join of a with what all of b inside t have in common lacks a
 // literal too.
-pub fn find_shorter(ap: &[u64], an: &[u64], bp: &[u64], bn: &[u64], t: Term) -> Shorter
+pub fn find_shorter(
+    ap: &[u64],
+    an: &[u64],
+    bp: &[u64],
+    bn: &[u64],
+    t: Term,
+) -> Option<(usize, usize)>
     requires { (length an.now ≡ length ap.now) × (length bn.now ≡ length bp.now) }
     ensures { Found ap.now an.now bp.now bn.now t result }
 {
     let mut shared = terms::EMPTY;
-    let mut found = Shorter::None;
-    let mut k = 0;
-    'pairs: while k < ap.len() {
+    for k in 0..ap.len() {
         let a = term_at(ap, an, k);
         if is_short(t, shared, a) {
             let mut next = t;
-            let mut l = 0;
-            while l < bp.len() {
+            for l in 0..bp.len() {
                 let b = term_at(bp, bn, l);
                 if is_short(t, a, b) {
-                    found = Shorter::At(k, l);
-                    break 'pairs;
+                    return Some((k, l));
                 }
                 next = narrow(t, next, b);
-                l += 1;
             }
             shared = next;
         }
-        k += 1;
     }
-    found
+    None
 }

@@ -46,11 +46,9 @@ pub fn supports(words: &[u32], n: usize) -> [u64; MAX_NODES as usize]
     ensures { Holds 0 (support words.now) n result }
 {
     let mut supports = [0u64; MAX_NODES as usize];
-    let mut i = 0;
-    while i < n {
+    for i in 0..n {
         let v = support_at(words, n, i, &supports);
         supports[i] = v;
-        i += 1;
     }
     supports
 }
@@ -92,11 +90,9 @@ pub fn value(words: &[u32], n: usize, s: u64) -> bool
     ensures { result ≡ function words.now (pred n) s }
 {
     let mut values = [false; MAX_NODES as usize];
-    let mut i = 0;
-    while i < n {
+    for i in 0..n {
         let v = value_at(words, n, i, s, &values);
         values[i] = v;
-        i += 1;
     }
     values[n - 1]
 }
@@ -146,11 +142,9 @@ pub fn implied(words: &[u32], n: usize, t: Term) -> bool
     ensures { result ≡ implied_at words.now t (pred n) }
 {
     let mut implied = [false; MAX_NODES as usize];
-    let mut i = 0;
-    while i < n {
+    for i in 0..n {
         let v = implied_at(words, n, i, t, &implied);
         implied[i] = v;
-        i += 1;
     }
     implied[n - 1]
 }
@@ -218,11 +212,9 @@ pub fn models_under(words: &[u32], variables: u32, n: usize, t: Term) -> u64
 {
     let supports = supports(words, n);
     let mut models = [0u64; MAX_NODES as usize];
-    let mut i = 0;
-    while i < n {
+    for i in 0..n {
         let v = models_at(words, variables, n, i, t, &supports, &models);
         models[i] = v;
-        i += 1;
     }
     models[n - 1] >> terms::literals(t)
 }

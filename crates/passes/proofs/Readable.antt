@@ -4,10 +4,10 @@ use mathlib.Core.Path.{◌≡◌, refl, sym, ap, ap₂, subst, ◌∙◌}
 use mathlib.Core.Bool.{Bool, true, false, ◌&&◌, cond}
 use mathlib.Core.Logic.{⊎_elim}
 use mathlib.Core.List.{List}
-use native.Mathlib.Nat.{not-suc-le-zero, le_antisymm, lt_of_lt_of_le, lt_irrefl}
+use native.Mathlib.Nat.{lt_of_lt_of_le, lt_irrefl}
 use native.Mathlib.Omega.{arith}
 use native.Mathlib.Numerals.{add-one, sub-one}
-use lib.ListN.{length, get_or, set, length-set, replicate, length-replicate}
+use lib.ListN.{length, get_or, set, length-set}
 use lib.Seq.{get_or-set_same, get_or-set_other}
 use Rattle.masks.specs.Mask.{width}
 use Rattle.masks.proofs.Tests.{below_suc}
@@ -121,9 +121,6 @@ module _ {n : ℕ} {w : List ℕ} {i : ℕ} {r : Decoded} {h : Gate} (read : Rea
 abbrev pub FilledTo : {A : Type 0} → A → (ℕ → A) → ℕ → List A → Type 0
 FilledTo d f i l = (length l ≡ max_nodes) × Holds d f i l
 
-pub filled-start : {A : Type 0} (d : A) (f : ℕ → A) → FilledTo d f 0 (replicate max_nodes d)
-filled-start d f = (length-replicate max_nodes d, λ c k. absurd (not-suc-le-zero k))
-
 -- one element more
 pub filled_next : {A : Type 0} (d : A) (f : ℕ → A) (i : ℕ) (l : List A) (v : A) → i < max_nodes → FilledTo d f i l → v ≡ f i
     → FilledTo d f (i + 1) (set l i v)
@@ -138,21 +135,7 @@ filled_next d f i l v k (long, h) e = (length-set l i v ∙ long, rw add-one mor
         (λ (q : c < i). get_or-set_other l i c v d (λ z. lt_irrefl i (subst (λ (y : ℕ). y < i) z q)) ∙ h c q)
         (below_suc m)
 
--- all n, and the last
-pub filled-all : {A : Type 0} (d : A) (f : ℕ → A) (n i : ℕ) (l : List A) → i ≤ n → n ≤ i → FilledTo d f i l → Holds d f n l
-filled-all d f n i l p q (long, h) = subst (λ (k : ℕ). Holds d f k l) (le_antisymm p q) h
-
+-- the last of all n
 pub filled-last : {A : Type 0} (d : A) (f : ℕ → A) (n i : ℕ) (l : List A) → 1 ≤ n → n ≤ i → FilledTo d f i l
     → get_or l (n - 1) d ≡ f (pred n)
 filled-last d f n i l p q (long, h) = h (n - 1) (omega arith) ∙ ap f (sub-one n)
-
--- ---- a choice by a variable's literals, p positive and q negative
-module _ {A : Type 0} (p q : Bool) (h l m : A) where
-  pub by-positive : p ≡ true → h ≡ cond p h (cond q l m)
-  by-positive e = sym (ap (λ (t : Bool). cond t h (cond q l m)) e)
-
-  pub by-negative : p ≡ false → q ≡ true → l ≡ cond p h (cond q l m)
-  by-negative d e = sym (ap₂ (λ (t u : Bool). cond t h (cond u l m)) d e)
-
-  pub by-neither : p ≡ false → q ≡ false → m ≡ cond p h (cond q l m)
-  by-neither d e = sym (ap₂ (λ (t u : Bool). cond t h (cond u l m)) d e)

@@ -15,10 +15,8 @@ pub fn union_of(children: Children, masks: &[u64; MAX_NODES as usize]) -> u64
     ensures { result ≡ union (λ c. get_or masks.now c 0) (child_list children) }
 {
     let nodes = children.nodes;
-    let mut k = children.count as usize;
     let mut all = 0u64;
-    while 0 < k {
-        k -= 1;
+    for k in (0..children.count as usize).rev() {
         let c = nodes[k] as usize;
         all = masks[c] | all;
     }
@@ -31,10 +29,8 @@ pub fn all_of(children: Children, values: &[bool; MAX_NODES as usize]) -> bool
     ensures { result ≡ all (λ c. get_or values.now c false) (child_list children) }
 {
     let nodes = children.nodes;
-    let mut k = children.count as usize;
     let mut each = true;
-    while 0 < k {
-        k -= 1;
+    for k in (0..children.count as usize).rev() {
         let c = nodes[k] as usize;
         each = values[c] & each;
     }
@@ -62,10 +58,8 @@ pub fn product_of(
         (child_list children) }
 {
     let nodes = children.nodes;
-    let mut k = children.count as usize;
     let mut all = 1u64 << variables;
-    while 0 < k {
-        k -= 1;
+    for k in (0..children.count as usize).rev() {
         let c = nodes[k] as usize;
         let own = masks::count_bits(supports[c]);
         all = product(variables, own, models[c], all);

@@ -25,17 +25,13 @@ fn support_at(words: &[u32], n: usize, i: usize, supports: &[u64; MAX_NODES as u
     ensures { result ≡ support words.now i }
 {
     let node = decode_at(words, i);
-    let g = node.gate;
-    match g {
+    match node.gate {
         Gate::Constant(_) => 0,
         Gate::Literal(_, x) => masks::with_bit(0, x),
         Gate::Decision(x, a, b) => {
             masks::with_bit(supports[a as usize] | supports[b as usize], x)
         }
-        Gate::Conjunction => {
-            let children = node.children;
-            union_of(children, supports)
-        }
+        Gate::Conjunction => union_of(node.children, supports),
         Gate::Unknown => 0,
     }
 }
@@ -46,11 +42,9 @@ pub fn supports(words: &[u32], n: usize) -> [u64; MAX_NODES as usize]
     ensures { Holds 0 (support words.now) n result }
 {
     let mut supports = [0u64; MAX_NODES as usize];
-    let mut i = 0;
-    while i < n {
+    for i in 0..n {
         let v = support_at(words, n, i, &supports);
         supports[i] = v;
-        i += 1;
     }
     supports
 }
@@ -61,16 +55,9 @@ fn value_at(words: &[u32], n: usize, i: usize, s: u64, values: &[bool; MAX_NODES
     ensures { result ≡ function words.now i s }
 {
     let node = decode_at(words, i);
-    let g = node.gate;
-    match g {
+    match node.gate {
         Gate::Constant(b) => b,
-        Gate::Literal(sign, x) => {
-            if sign {
-                masks::has_bit(s, x)
-            } else {
-                !masks::has_bit(s, x)
-            }
-        }
+        Gate::Literal(sign, x) => masks::has_bit(s, x) == sign,
         Gate::Decision(x, a, b) => {
             if masks::has_bit(s, x) {
                 values[b as usize]
@@ -78,10 +65,7 @@ fn value_at(words: &[u32], n: usize, i: usize, s: u64, values: &[bool; MAX_NODES
                 values[a as usize]
             }
         }
-        Gate::Conjunction => {
-            let children = node.children;
-            all_of(children, values)
-        }
+        Gate::Conjunction => all_of(node.children, values),
         Gate::Unknown => false,
     }
 }
@@ -92,11 +76,9 @@ pub fn value(words: &[u32], n: usize, s: u64) -> bool
     ensures { result ≡ function words.now (pred n) s }
 {
     let mut values = [false; MAX_NODES as usize];
-    let mut i = 0;
-    while i < n {
+    for i in 0..n {
         let v = value_at(words, n, i, s, &values);
         values[i] = v;
-        i += 1;
     }
     values[n - 1]
 }
@@ -127,15 +109,11 @@ fn implied_at(
     ensures { result ≡ implied_at words.now t i }
 {
     let node = decode_at(words, i);
-    let g = node.gate;
-    match g {
+    match node.gate {
         Gate::Constant(b) => b,
         Gate::Literal(sign, x) => terms::has_literal(t, sign, x),
         Gate::Decision(x, a, b) => both_sides(t, x, implied[a as usize], implied[b as usize]),
-        Gate::Conjunction => {
-            let children = node.children;
-            all_of(children, implied)
-        }
+        Gate::Conjunction => all_of(node.children, implied),
         Gate::Unknown => false,
     }
 }
@@ -146,11 +124,9 @@ pub fn implied(words: &[u32], n: usize, t: Term) -> bool
     ensures { result ≡ implied_at words.now t (pred n) }
 {
     let mut implied = [false; MAX_NODES as usize];
-    let mut i = 0;
-    while i < n {
+    for i in 0..n {
         let v = implied_at(words, n, i, t, &implied);
         implied[i] = v;
-        i += 1;
     }
     implied[n - 1]
 }
@@ -195,18 +171,14 @@ fn models_at(
     ensures { result ≡ scaled variables (function words.now i) t }
 {
     let node = decode_at(words, i);
-    let g = node.gate;
-    match g {
+    match node.gate {
         Gate::Constant(b) => constant_models(variables, b),
         Gate::Literal(sign, x) => {
             let low = constant_models(variables, !sign);
             average(t, x, low, constant_models(variables, sign))
         }
         Gate::Decision(x, a, b) => average(t, x, models[a as usize], models[b as usize]),
-        Gate::Conjunction => {
-            let children = node.children;
-            product_of(children, variables, supports, models)
-        }
+        Gate::Conjunction => product_of(node.children, variables, supports, models),
         Gate::Unknown => 0,
     }
 }
@@ -218,11 +190,9 @@ pub fn models_under(words: &[u32], variables: u32, n: usize, t: Term) -> u64
 {
     let supports = supports(words, n);
     let mut models = [0u64; MAX_NODES as usize];
-    let mut i = 0;
-    while i < n {
+    for i in 0..n {
         let v = models_at(words, variables, n, i, t, &supports, &models);
         models[i] = v;
-        i += 1;
     }
     models[n - 1] >> terms::literals(t)
 }

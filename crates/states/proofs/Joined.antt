@@ -1,4 +1,5 @@
 -- Any two pairs of masks joined by the nine cases: the join of the masks, or a conflict. Two terms: the conflict is that of the masks.
+use Rattle.std.specs.Prelude.{None, Some}
 use Prim.Native.Nat.{ℕ, ◌≤◌}
 use mathlib.Core.Path.{◌≡◌, sym, ap, ap₂, ◌∙◌}
 use mathlib.Core.Bool.{Bool, ◌&&◌, not, cond}
@@ -16,7 +17,6 @@ use Rattle.terms.proofs.Terms.{agrees-e, agrees-i}
 use Rattle.states.specs.Joining.{join_by_cases}
 use Rattle.states.specs.NineCases.{CaseOf}
 use Rattle.states.specs.States.{is_conflict, state_at, join_said, case_at}
-use Rattle.states.specs.declared.TermJoin.{TermJoin}
 use Rattle.states.proofs.Made.{made-ext, made_again, reads-conflict}
 use Rattle.states.proofs.States.{join-state, term-state}
 
@@ -29,11 +29,11 @@ module _ (N : ℕ) (t u : Term) where
 
   -- any two pairs of masks
   pub joined-masks : MasksFit N t → MasksFit N u
-      → join_by_cases N t u ≡ cond (some N (λ x. is_conflict (case_at t u x))) TermJoin.Conflict (TermJoin.Is (join t u))
+      → join_by_cases N t u ≡ cond (some N (λ x. is_conflict (case_at t u x))) None (Some (join t u))
   joined-masks h k =
       made-ext (case_at t u) (state_at (join t u)) N (λ x. sym (join-state t u x))
       ∙ made_again N (join t u) (join-fits N t u h k)
-      ∙ ap (λ (b : Bool). cond b TermJoin.Conflict (TermJoin.Is (join t u))) cases-read
+      ∙ ap (λ (b : Bool). cond b None (Some (join t u))) cases-read
 
   -- two terms
   module _ (h : IsTerm N t) (k : IsTerm N u) where

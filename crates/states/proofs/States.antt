@@ -1,5 +1,6 @@
 -- Laws of states, on any two masks: what a variable is put into is read again, and the join of the masks has at each variable what the
 -- nine cases give.
+use Rattle.std.specs.Prelude.{Some}
 use Prim.Native.Nat.{ℕ, ◌<◌}
 use mathlib.Core.Path.{◌≡◌, refl, sym, ap₂, ◌∙◌}
 use mathlib.Core.Bool.{Bool, true, false, ◌||◌, true≢false}
@@ -13,7 +14,6 @@ use Rattle.terms.proofs.Terms.{without-IsTerm, extend-IsTerm}
 use Rattle.states.specs.Joining.{with_state}
 use Rattle.states.specs.States.{state_by, state_at, join_said, case_at}
 use Rattle.states.specs.declared.State.{State}
-use Rattle.states.specs.declared.StateJoin.{StateJoin}
 
 -- ---- the join of the masks
 -- the bits in either are those of the case
@@ -39,12 +39,12 @@ join-state t u x =
 
 -- ---- a variable put into a state
 -- the state of a variable with no literal, and with those of one sign only
-unmentioned-state : (t : Term) (x : ℕ) → Unmentioned t x → state_at t x ≡ StateJoin.Is State.Absent
+unmentioned-state : (t : Term) (x : ℕ) → Unmentioned t x → state_at t x ≡ Some State.Absent
 unmentioned-state t x u =
     ap₂ state_by (is_false (has t true x) (not_T (has t true x) (u true)))
     (is_false (has t false x) (not_T (has t false x) (u false)))
 
-pub with-here : (t : Term) (x : ℕ) (s : State) → state_at (with_state t x s) x ≡ StateJoin.Is s
+pub with-here : (t : Term) (x : ℕ) (s : State) → state_at (with_state t x s) x ≡ Some s
 with-here t x State.Absent = unmentioned-state (without t x) x (without-here t x)
 with-here t x State.Negative =
     let rest : Term = without t x in
@@ -71,10 +71,10 @@ with-IsTerm N t x State.Negative l h = extend-IsTerm N (without t x) x false l (
 with-IsTerm N t x State.Positive l h = extend-IsTerm N (without t x) x true l (without-IsTerm N t x h) (without-here t x)
 
 -- ---- each variable of a term has a state
-pub term-state : (N : ℕ) (t : Term) (x : ℕ) → IsTerm N t → (s : State) × (state_at t x ≡ StateJoin.Is s)
+pub term-state : (N : ℕ) (t : Term) (x : ℕ) → IsTerm N t → (s : State) × (state_at t x ≡ Some s)
 term-state N t x h = by (has t true x) refl (has t false x) refl
   where
-    by : (p : Bool) → has t true x ≡ p → (n : Bool) → has t false x ≡ n → (s : State) × (state_by p n ≡ StateJoin.Is s)
+    by : (p : Bool) → has t true x ≡ p → (n : Bool) → has t false x ≡ n → (s : State) × (state_by p n ≡ Some s)
     by true e true f = absurd (true≢false (h.once x true false (along (sym e) tt) (along (sym f) tt)))
     by true e false f = (State.Positive, refl)
     by false e true f = (State.Negative, refl)

@@ -16,72 +16,42 @@ pub enum State {
     Positive,
 }
 
-// What two states of one variable make: one state, or a conflict, the scope's clash.
-#[derive(Clone, Copy)]
-pub enum StateJoin {
-    Is(State),
-    Conflict,
-}
-
-// What two terms make: one term, or a conflict.
-#[derive(Clone, Copy)]
-pub enum TermJoin {
-    Is(Term),
-    Conflict,
-}
-
-// The nine cases.
-pub fn join_states(a: State, b: State) -> StateJoin
+// The nine cases: the state that two states of one variable make; none where they conflict, the scope's clash.
+pub fn join_states(a: State, b: State) -> Option<State>
     ensures { result ≡ join_states a b }
 {
-    match a {
-        State::Absent => match b {
-            State::Absent => StateJoin::Is(State::Absent),
-            State::Negative => StateJoin::Is(State::Negative),
-            State::Positive => StateJoin::Is(State::Positive),
-        },
-        State::Negative => match b {
-            State::Absent => StateJoin::Is(State::Negative),
-            State::Negative => StateJoin::Is(State::Negative),
-            State::Positive => StateJoin::Conflict,
-        },
-        State::Positive => match b {
-            State::Absent => StateJoin::Is(State::Positive),
-            State::Negative => StateJoin::Conflict,
-            State::Positive => StateJoin::Is(State::Positive),
-        },
+    match (a, b) {
+        (State::Absent, s) => Some(s),
+        (s, State::Absent) => Some(s),
+        (State::Negative, State::Negative) => Some(State::Negative),
+        (State::Negative, State::Positive) => None,
+        (State::Positive, State::Negative) => None,
+        (State::Positive, State::Positive) => Some(State::Positive),
     }
 }
 
 // What any two masks say of x: a bit in both is a conflict.
-pub fn state_at(t: Term, x: u32) -> StateJoin
+pub fn state_at(t: Term, x: u32) -> Option<State>
     requires { x < 64 }
     ensures { result ≡ state_at t x }
 {
+    let positive = terms::has_literal(t, true, x);
     let negative = terms::has_literal(t, false, x);
-    if terms::has_literal(t, true, x) {
-        if negative {
-            return StateJoin::Conflict;
-        }
-        return StateJoin::Is(State::Positive);
+    match (positive, negative) {
+        (false, false) => Some(State::Absent),
+        (false, true) => Some(State::Negative),
+        (true, false) => Some(State::Positive),
+        (true, true) => None,
     }
-    if negative {
-        return StateJoin::Is(State::Negative);
-    }
-    StateJoin::Is(State::Absent)
 }
 
 // The case of x in two terms.
-pub fn case_at(t: Term, u: Term, x: u32) -> StateJoin
+pub fn case_at(t: Term, u: Term, x: u32) -> Option<State>
     requires { x < 64 }
     ensures { result ≡ case_at t u x }
 {
-    let StateJoin::Is(a) = state_at(t, x) else {
-        return StateJoin::Conflict;
-    };
-    let StateJoin::Is(b) = state_at(u, x) else {
-        return StateJoin::Conflict;
-    };
+    let a = state_at(t, x)?;
+    let b = state_at(u, x)?;
     join_states(a, b)
 }
 
@@ -98,18 +68,15 @@ pub fn with_state(t: Term, x: u32, s: State) -> Term
     }
 }
 
-// Two terms joined variable by variable, to show what `terms::conflict` and `terms::join` make of whole masks at once.
-pub fn join_by_cases(t: Term, u: Term) -> TermJoin
+// Two terms joined variable by variable, none where they conflict: to show what `terms::conflict` and `terms::join` make of whole masks
+// at once.
+pub fn join_by_cases(t: Term, u: Term) -> Option<Term>
     ensures { result ≡ join_by_cases width t u }
 {
     let mut joined = terms::EMPTY;
-    let mut x: u32 = 0;
-    while x < 64 {
-        let StateJoin::Is(s) = case_at(t, u, x) else {
-            return TermJoin::Conflict;
-        };
+    for x in 0..64 {
+        let s = case_at(t, u, x)?;
         joined = with_state(joined, x, s);
-        x += 1;
     }
-    TermJoin::Is(joined)
+    Some(joined)
 }

@@ -1,11 +1,7 @@
 -- `passes::implied_at` meets its contract.
 use mathlib.Core.Path.{◌∙◌}
-use Rattle.passes.proofs.Readable.{readable-words, read-bounds, gate-bounds, implied-from, reading}
+use Rattle.passes.proofs.Readable.{read-bounds, gate-bounds, implied-from, reading}
 use Rattle.passes.proofs.implied_at.Goals as goal
-
-pub decode_at-node-requires : goal.decode_at-node-requires
-decode_at-node-requires c = readable-words c.args.n c.args.words.now c.requires.0 c.args.i
-    c.requires.1
 
 pub has_literal-requires : goal.has_literal-requires
 has_literal-requires c =

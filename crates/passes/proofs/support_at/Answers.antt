@@ -1,11 +1,7 @@
 -- `passes::support_at` meets its contract.
 use mathlib.Core.Path.{◌∙◌}
-use Rattle.passes.proofs.Readable.{readable-words, read-bounds, gate-bounds, support-from, reading}
+use Rattle.passes.proofs.Readable.{read-bounds, gate-bounds, support-from, reading}
 use Rattle.passes.proofs.support_at.Goals as goal
-
-pub decode_at-node-requires : goal.decode_at-node-requires
-decode_at-node-requires c = readable-words c.args.n c.args.words.now c.requires.0 c.args.i
-    c.requires.1
 
 pub with_bit-requires : goal.with_bit-requires
 with_bit-requires c = gate-bounds (reading c.requires.0 c.requires.1 c.decode_at-node.ensures) c.in-Literal.is

@@ -1,24 +1,20 @@
 -- `passes::value_at` meets its contract.
-use Prim.Native.Nat.{ℕ}
-use mathlib.Core.Path.{sym, ap, ◌∙◌}
-use mathlib.Core.Bool.{Bool, false, not, cond}
+use mathlib.Core.Path.{◌≡◌, refl, sym, ap, ◌∙◌}
+use mathlib.Core.Bool.{true, beq, Bool, false, cond}
 use lib.ListN.{get_or}
 use Rattle.masks.specs.Mask.{bit}
 use Rattle.circuits.specs.Function.{signed}
-use Rattle.passes.proofs.Readable.{readable-words, read-bounds, gate-bounds, value-from, reading}
+use Rattle.passes.proofs.Readable.{read-bounds, gate-bounds, value-from, reading}
 use Rattle.passes.proofs.value_at.Goals as goal
 
-pub decode_at-node-requires : goal.decode_at-node-requires
-decode_at-node-requires c = readable-words c.args.n c.args.words.now c.requires.0 c.args.i
-    c.requires.1
+as_signed : (v sign : Bool) → beq v sign ≡ signed sign v
+as_signed true true = refl
+as_signed true false = refl
+as_signed false true = refl
+as_signed false false = refl
 
 pub has_bit-requires : goal.has_bit-requires
 has_bit-requires c = gate-bounds (reading c.requires.0 c.requires.1 c.decode_at-node.ensures) c.in-Literal.is
-
-pub has_bit-requires-else-sign : goal.has_bit-requires-else-sign
-has_bit-requires-else-sign c =
-    let read = reading c.requires.0 c.requires.1 c.decode_at-node.ensures in
-    gate-bounds read c.in-Literal.is
 
 pub has_bit-requires-in-Decision : goal.has_bit-requires-in-Decision
 has_bit-requires-in-Decision c =
@@ -43,18 +39,10 @@ returns-in-Constant c =
     let read = reading c.requires.0 c.requires.1 c.decode_at-node.ensures in
     value-from read c.in-Constant.is c.args.s c.args.values.now c.requires.2
 
-pub returns-then-sign : goal.returns-then-sign
-returns-then-sign c =
+pub returns-in-Literal : goal.returns-in-Literal
+returns-in-Literal c =
     let read = reading c.requires.0 c.requires.1 c.decode_at-node.ensures in
-    let s : ℕ = c.args.s in
-    c.has_bit.ensures ∙ sym (ap (λ (b : Bool). signed b (bit s c.in-Literal.x)) c.if-sign.true)
-    ∙ value-from read c.in-Literal.is c.args.s c.args.values.now c.requires.2
-
-pub returns-else-sign : goal.returns-else-sign
-returns-else-sign c =
-    let read = reading c.requires.0 c.requires.1 c.decode_at-node.ensures in
-    let s : ℕ = c.args.s in
-    ap not c.has_bit-else-sign.ensures ∙ sym (ap (λ (b : Bool). signed b (bit s c.in-Literal.x)) c.if-sign.false)
+    ap (λ (b : Bool). beq b c.in-Literal.sign) c.has_bit.ensures ∙ as_signed (bit c.args.s c.in-Literal.x) c.in-Literal.sign
     ∙ value-from read c.in-Literal.is c.args.s c.args.values.now c.requires.2
 
 pub returns-then-has_bit : goal.returns-then-has_bit

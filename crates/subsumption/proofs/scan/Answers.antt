@@ -8,8 +8,11 @@ use Rattle.lists.specs.Scans.{term_at}
 use Rattle.subsumption.proofs.scan.Goals as goal
 
 pub returns-then-inside : goal.returns-then-inside
-returns-then-inside c = (omega arith, sym (ap (λ (u : Term). inside u c.args.t) c.term_at.ensures) ∙ sym c.inside.ensures ∙
-c.if-inside.true)
+returns-then-inside c = (
+  omega arith,
+  sym (ap (λ (u : Term). inside u c.args.t) c.term_at.ensures) ∙ sym c.inside.ensures ∙
+      c.if-inside.true,
+)
 
 pub loop-k-preserved : goal.loop-k-preserved
 loop-k-preserved c =

@@ -82,15 +82,13 @@ pub fn filter(
         (by_sign positives.new negatives.new) result }
 {
     let mut count = 0;
-    let mut k = 0;
-    while k < lp.len() {
+    for k in 0..lp.len() {
         let t = lists::term_at(lp, ln, k);
         if !violates(partners, heads, t) {
             positives[count] = t.positive;
             negatives[count] = t.negative;
             count += 1;
         }
-        k += 1;
     }
     count
 }

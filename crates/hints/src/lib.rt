@@ -3,7 +3,7 @@
 // bits of those that still want a hint.
 #![tactic(auto)]
 
-ghost use Rattle.std.specs.Prelude.{◌≡◌, true, ◌+◌, ◌*◌, ◌≤◌, ◌<◌, length};
+ghost use Rattle.std.specs.Prelude.{◌≡◌, ℕ, true, ◌+◌, ◌*◌, ◌≤◌, ◌<◌, length, Some, MatchOption};
 ghost use Rattle.masks.specs.Mask.{width};
 ghost use Rattle.terms.specs.Term.{inside};
 ghost use Rattle.lists.specs.Capacity.{max_capacity};
@@ -13,8 +13,8 @@ ghost use Rattle.hints.specs.Scratch.{word_bits, max_words, bit_words, column_va
 use lists::MAX_CAPACITY;
 use terms::Term;
 
-// The place of no kept term.
-pub const NONE: u16 = 4096;
+// The place of no kept term: what hints are before they are set.
+pub const NO_PLACE: u16 = 4096;
 
 // How many terms stand in one word, a bit each.
 pub const WORD_BITS: usize = 64;
@@ -51,23 +51,23 @@ pub fn put_kept(kept: &mut [u64], k: usize, t: Term)
     kept[2 * k + 1] = t.negative;
 }
 
-// Kept term h is one of the first `count` and inside t.
-pub fn covers(kept: &[u64], count: usize, h: usize, t: Term) -> bool
+// The kept term at the hint is one of the first `count` and inside t.
+pub fn covers(kept: &[u64], count: usize, hint: Option<usize>, t: Term) -> bool
     requires { 2 * count ≤ length kept.now }
-    ensures { result ≡ true → (h < count) × (inside (kept_at kept.now h) t ≡ true) }
+    ensures { result ≡ true → (h : ℕ) × (hint ≡ Some h) × (h < count) × (inside (kept_at kept.now h) t ≡ true) }
 {
-    if h < count {
-        return terms::inside(kept_at(kept, h), t);
-    }
-    false
+    let Some(h) = hint else {
+        return false;
+    };
+    h < count && terms::inside(kept_at(kept, h), t)
 }
 
-// The hint of term k, or that there is none.
-pub fn hint_at(hints: &[u16], k: usize) -> usize {
+// The hint of term k, where there is room for one.
+pub fn hint_at(hints: &[u16], k: usize) -> Option<usize> {
     if k < hints.len() {
-        return hints[k] as usize;
+        return Some(hints[k] as usize);
     }
-    NONE as usize
+    None
 }
 
 // Makes a place the hint of term k, where there is room for it.
@@ -89,19 +89,21 @@ pub fn bit_words(n: usize) -> usize
     (n + 63) / WORD_BITS
 }
 
-// The lowest variable of a mask; 64 where there is none.
-fn lowest(mask: u64) -> usize
-    ensures { result ≤ width }
+// The lowest variable of a mask, where it has one.
+fn lowest(mask: u64) -> Option<usize>
+    ensures { MatchOption result (mask ≡ 0) (λ v. (0 < mask) × (v ≤ width)) }
 {
-    u64::trailing_zeros(mask) as usize
+    if mask == 0 {
+        return None;
+    }
+    Some(u64::trailing_zeros(mask) as usize)
 }
 
-// The mask without its lowest variable.
+// The mask without its lowest variable, where it has one.
 fn without_lowest(mask: u64) -> u64
-    requires { 0 < mask }
-    ensures { result < mask }
+    ensures { (result ≤ mask) × (0 < mask → result < mask) }
 {
-    mask & (mask - 1)
+    mask & mask.wrapping_sub(1)
 }
 
 // Where the column of literal l starts.
@@ -112,22 +114,12 @@ fn column_of(words: usize, l: usize) -> usize
     words * l
 }
 
-// Makes the first n entries 0.
-fn clear(entries: &mut [u64], n: usize)
-    requires { n ≤ length entries.old }
-{
-    for k in 0..n {
-        entries[k] = 0;
-    }
-}
-
 // Sets a bit of entry `word` of a column for each variable of the mask: the literals of one sign start at column `first`.
 fn mark(columns: &mut [u64], words: usize, first: usize, word: usize, bit: u64, mask: u64)
     requires { HasColumns words columns.old × (words ≤ max_words) × (first ≤ column_variables) × (word < words) }
 {
     let mut rest = mask;
-    while rest != 0 {
-        let v = lowest(rest);
+    while let Some(v) = lowest(rest) {
         if v >= VARIABLES {
             return;
         }
@@ -145,7 +137,7 @@ pub fn fill_columns(columns: &mut [u64], positives: &[u64], negatives: &[u64])
     ensures { length columns.new ≡ length columns.old }
 {
     let words = bit_words(positives.len());
-    clear(columns, LITERALS * words);
+    columns[..LITERALS * words].fill(0);
     for i in 0..positives.len() {
         let bit = 1u64 << (i % WORD_BITS);
         mark(columns, words, 0, i / WORD_BITS, bit, positives[i]);
@@ -166,24 +158,6 @@ fn narrow(bits: &mut [u64; MAX_WORDS], one: &[u64], other: &[u64]) -> bool
     any != 0
 }
 
-// The lowest variable of a mask; v where there is none.
-fn lowest_or(mask: u64, v: usize) -> usize {
-    if mask != 0 {
-        return lowest(mask);
-    }
-    v
-}
-
-// The mask without its lowest variable, where there is one.
-fn shorter(mask: u64) -> u64
-    ensures { result ≤ mask }
-{
-    if mask != 0 {
-        return without_lowest(mask);
-    }
-    0
-}
-
 // Leaves the bits of the terms that have the literals of one sign of the mask's variables; says whether there are any. Two columns go at
 // once, so that the bits are read and written half as often; the last one may go with itself.
 fn narrow_all(
@@ -196,14 +170,10 @@ fn narrow_all(
     requires { HasColumns words columns.now × (words ≤ max_words) × (first ≤ column_variables) }
 {
     let mut rest = mask;
-    while rest != 0 {
-        let v = lowest(rest);
+    while let Some(v) = lowest(rest) {
         let others = without_lowest(rest);
-        let u = lowest_or(others, v);
-        if v >= VARIABLES {
-            return true;
-        }
-        if u >= VARIABLES {
+        let u = lowest(others).unwrap_or(v);
+        if v >= VARIABLES || u >= VARIABLES {
             return true;
         }
         let one = column_of(words, first + v);
@@ -215,7 +185,7 @@ fn narrow_all(
         ) {
             return false;
         }
-        rest = shorter(others);
+        rest = without_lowest(others);
     }
     true
 }
@@ -225,18 +195,9 @@ fn set_hints(hints: &mut [u16], first: usize, bits: u64, place: usize)
     requires { first ≤ max_capacity }
 {
     let mut rest = bits;
-    while rest != 0 {
-        set_hint(hints, first + lowest(rest), place);
+    while let Some(v) = lowest(rest) {
+        set_hint(hints, first + v, place);
         rest = without_lowest(rest);
-    }
-}
-
-// Makes the bits a copy of those left.
-fn copy(bits: &mut [u64; MAX_WORDS], left: &[u64])
-    requires { length left.now ≡ max_words }
-{
-    for w in 0..MAX_WORDS {
-        bits[w] = left[w];
     }
 }
 
@@ -276,7 +237,7 @@ pub fn spread(
         × (length left.new ≡ length left.old) }
 {
     let mut bits = [0u64; MAX_WORDS];
-    copy(&mut bits, left);
+    bits.copy_from_slice(left);
     if !narrow_all(&mut bits, columns, words, 0, d.positive) {
         return true;
     }
@@ -294,14 +255,14 @@ pub fn missing(m: Term, t: Term) -> Term {
     }
 }
 
-// The terms t and u join, and the kept term of u's hint does not cover their join.
-fn is_open(kept: &[u64], count: usize, h: usize, t: Term, u: Term) -> bool
+// The terms t and u join, and the kept term at u's hint does not cover their join.
+fn is_open(kept: &[u64], count: usize, hint: Option<usize>, t: Term, u: Term) -> bool
     requires { 2 * count ≤ length kept.now }
 {
     if terms::conflict(t, u) {
         return false;
     }
-    !covers(kept, count, h, terms::join(t, u))
+    !covers(kept, count, hint, terms::join(t, u))
 }
 
 // Finds those terms of the list b, from a place on, that join with t and whose hint fails: they are left. Answers the join of t and all
@@ -319,13 +280,10 @@ fn gather(
     requires count_in_bounds { (2 * count ≤ length kept.now) × (length left.old ≡ max_words) }
     requires bn_len { (length bn.now ≡ length bp.now) × (length bp.now ≤ max_capacity) }
 {
-    clear(left, bit_words(bp.len()));
+    left[..bit_words(bp.len())].fill(0);
     let mut all = t;
     for k in from..bp.len() {
-        let u = Term {
-            positive: bp[k],
-            negative: bn[k],
-        };
+        let u = lists::term_at(bp, bn, k);
         if is_open(kept, count, hint_at(hints, k), t, u) {
             left[k / WORD_BITS] = left[k / WORD_BITS] | (1u64 << (k % WORD_BITS));
             all = terms::join(all, u);

@@ -1,10 +1,10 @@
 -- The loops: each goes over a list of terms, and inserts some terms for each.
-use Prim.Native.Nat.{ℕ, ◌+◌, ◌<◌, ◌≤◌, zero-le}
+use Prim.Native.Nat.{ℕ, ◌+◌, ◌<◌, ◌≤◌}
 use mathlib.Core.Path.{◌≡◌, refl, sym, ap, subst, ◌∙◌}
 use mathlib.Core.Bool.{Bool, true}
 use mathlib.Core.List.{List, [], ◌∷◌, ◌++◌}
-use native.Mathlib.Omega.{arith}
 use lib.ListN.{length, drop}
+use Rattle.std.specs.Prelude.{Some, None}
 use Rattle.terms.specs.Joins.{joins_with, joins}
 use Rattle.terms.specs.Lists.{Rising}
 use Rattle.terms.specs.Order.{before}
@@ -14,7 +14,6 @@ use Rattle.terms.proofs.Built.{with-step}
 use Rattle.lists.specs.Scans.{term_at}
 use Rattle.lists.proofs.Parts.{drop-terms, drop-end}
 use Rattle.insertion.specs.Filled.{held, Filled}
-use Rattle.insertion.specs.declared.Kept.TheVariants.{Count, Full}
 use Rattle.insertion.proofs.Again.{filled-length, filled-fits, filled-held}
 use Rattle.insertion.proofs.Parts.{Even, filled_none}
 use Rattle.joins.specs.Added.{insert_all, Added}
@@ -29,8 +28,7 @@ pub record Steps : Type 0 where
 
 -- turn k of the loop: the slices, which were s₀, hold count terms in their front, and what is left to insert makes the whole
 pub record Turn (m : Steps) (ps ns : List ℕ) (whole : List Term) (s₀ s : Bool → List ℕ) (count k : ℕ) : Type 0 where
-  pub within : k ≤ length ps
-  pub holds : Filled (held s count) s₀ s (Count count)
+  pub holds : Filled (held s count) s₀ s (Some count)
   pub rising : Rising (before []) (held s count)
   pub left : insert_all (m.all (drop k (terms_of ps ns))) (held s count) ≡ whole
 
@@ -40,7 +38,7 @@ all_made m ps ns s start = insert_all (m.all (terms_of ps ns)) (held s start)
 
 pub turn-start : (m : Steps) (ps ns : List ℕ) (s : Bool → List ℕ) → Even s → (start : ℕ) → start ≤ length (s true)
     → Rising (before []) (held s start) → Turn m ps ns (all_made m ps ns s start) s s start 0
-turn-start m ps ns s ev start h r = record { within = zero-le; holds = filled_none s ev start h; rising = r; left = refl }
+turn-start m ps ns s ev start h r = record { holds = filled_none s ev start h; rising = r; left = refl }
 
 module _ (m : Steps) (ps ns : List ℕ) (e : length ns ≡ length ps) (whole : List Term) (s₀ s : Bool → List ℕ) (ev : Even s₀)
     (count k : ℕ) (now : Turn m ps ns whole s₀ s count k) where
@@ -51,9 +49,9 @@ module _ (m : Steps) (ps ns : List ℕ) (e : length ns ≡ length ps) (whole : L
   turn-fits = filled-fits (held s count) s₀ s ev count now.holds
 
   -- nothing is left
-  pub turn_end : length ps ≤ k → Filled whole s₀ s (Count count)
+  pub turn_end : length ps ≤ k → Filled whole s₀ s (Some count)
   turn_end le =
-      subst (λ (z : List Term). Filled z s₀ s (Count count))
+      subst (λ (z : List Term). Filled z s₀ s (Some count))
       (sym (ap (λ (z : List Term). insert_all z (held s count)) (ap m.all (drop-end ps ns e k le) ∙ m.none)) ∙ now.left)
       now.holds
 
@@ -72,21 +70,20 @@ module _ (m : Steps) (ps ns : List ℕ) (e : length ns ≡ length ps) (whole : L
         ∙ insert_all-append (m.one (term_at ps ns k)) (m.all rest) (held s count))
         ∙ now.left
 
-    pub turn-full : (s'' : Bool → List ℕ) → Added (m.one (term_at ps ns k)) s count s' Full → Filled whole s₀ s'' Full
+    pub turn-full : (s'' : Bool → List ℕ) → Added (m.one (term_at ps ns k)) s count s' None → Filled whole s₀ s'' None
     unfolding next
     turn-full s'' a =
-        subst (λ (z : List Term). Filled z s₀ s'' Full) left-next
+        subst (λ (z : List Term). Filled z s₀ s'' None) left-next
         (added_full (held s count) s₀ s ev count now.holds (m.one (term_at ps ns k)) s' (m.all rest) s'' a)
 
-    pub turn-next : (c : ℕ) → Added (m.one (term_at ps ns k)) s count s' (Count c) → Turn m ps ns whole s₀ s' c (k + 1)
+    pub turn-next : (c : ℕ) → Added (m.one (term_at ps ns k)) s count s' (Some c) → Turn m ps ns whole s₀ s' c (k + 1)
     unfolding next
     turn-next c a =
-        let made : Filled next s₀ s' (Count c) =
-        added_then (held s count) s₀ s ev count now.holds (m.one (term_at ps ns k)) s' (Count c) a in
+        let made : Filled next s₀ s' (Some c) =
+        added_then (held s count) s₀ s ev count now.holds (m.one (term_at ps ns k)) s' (Some c) a in
         let is : held s' c ≡ next = filled-held next s₀ s' ev c made in
         record {
-          within = omega arith;
-          holds = subst (λ (z : List Term). Filled z s₀ s' (Count c)) (sym is) made;
+          holds = subst (λ (z : List Term). Filled z s₀ s' (Some c)) (sym is) made;
           rising = subst (Rising (before [])) (sym is) (rises (m.one (term_at ps ns k)) (held s count) now.rising);
           left = ap (insert_all (m.all rest)) is ∙ left-next;
         }

@@ -9,18 +9,23 @@ ghost use Rattle.terms.specs.Term.{terms_of};
 ghost use Rattle.insertion.specs.Filled.{by_sign, held};
 ghost use Rattle.joins.specs.Added.{Added};
 
-use insertion::Kept;
 use terms::Term;
 
-// Adds the join of two terms, if they have no conflict.
-fn add_join(positives: &mut [u64], negatives: &mut [u64], count: usize, t: Term, u: Term) -> Kept
+// Adds the join of two terms, if they have no conflict. How many terms there are then; none where they are more than there is room for.
+fn add_join(
+    positives: &mut [u64],
+    negatives: &mut [u64],
+    count: usize,
+    t: Term,
+    u: Term,
+) -> Option<usize>
     requires { (count ≤ length positives.old) × (length negatives.old ≡ length positives.old)
         × Rising (before []) (held (by_sign positives.old negatives.old) count) }
     ensures { Added (joins_with t (u ∷ [])) (by_sign positives.old negatives.old) count
         (by_sign positives.new negatives.new) result }
 {
     if terms::conflict(t, u) {
-        return Kept::Count(count);
+        return Some(count);
     }
     insertion::insert(positives, negatives, count, terms::join(t, u))
 }
@@ -33,7 +38,7 @@ fn join_each(
     lp: &[u64],
     ln: &[u64],
     t: Term,
-) -> Kept
+) -> Option<usize>
     requires start_in_bounds { (start ≤ length positives.old) × (length negatives.old ≡ length positives.old)
         × Rising (before []) (held (by_sign positives.old negatives.old) start) }
     requires ln_len { length ln.now ≡ length lp.now }
@@ -42,16 +47,11 @@ fn join_each(
         (by_sign positives.new negatives.new) result }
 {
     let mut count = start;
-    let mut k = 0;
-    while k < lp.len() {
+    for k in 0..lp.len() {
         let u = lists::term_at(lp, ln, k);
-        let Kept::Count(c) = add_join(positives, negatives, count, t, u) else {
-            return Kept::Full;
-        };
-        count = c;
-        k += 1;
+        count = add_join(positives, negatives, count, t, u)?;
     }
-    Kept::Count(count)
+    Some(count)
 }
 
 // Makes the joins of the terms of a with those of b. For each term of b all of a: where the variables of a are the lower ones, as in texts
@@ -63,7 +63,7 @@ pub fn conjunction(
     an: &[u64],
     bp: &[u64],
     bn: &[u64],
-) -> Kept
+) -> Option<usize>
     requires negatives_len { length negatives.old ≡ length positives.old }
     requires an_len { (length an.now ≡ length ap.now) × (length bn.now ≡ length bp.now) }
     ensures { Added (joins (terms_of bp.now bn.now) (terms_of ap.now an.now))
@@ -71,14 +71,9 @@ pub fn conjunction(
         (by_sign positives.new negatives.new) result }
 {
     let mut count = 0;
-    let mut k = 0;
-    while k < bp.len() {
+    for k in 0..bp.len() {
         let t = lists::term_at(bp, bn, k);
-        let Kept::Count(c) = join_each(positives, negatives, count, ap, an, t) else {
-            return Kept::Full;
-        };
-        count = c;
-        k += 1;
+        count = join_each(positives, negatives, count, ap, an, t)?;
     }
-    Kept::Count(count)
+    Some(count)
 }

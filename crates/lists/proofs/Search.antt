@@ -155,12 +155,14 @@ module _ (t : Term) (k : List Term) where
 module _ (ps ns : List ℕ) (e : length ns ≡ length ps) (k : ℕ) (t : Term) (l : List Term) (c : Term) where
   pub search-next : (p q : Bool) → k < length ps → short t c (term_at ps ns k) ≡ p → any (short t (term_at ps ns k)) l ≡ q
       → shorter_from t l c (drop k (terms_of ps ns))
-      ≡ cond p (q || shorter_from t l (common_of t t l) (drop (k + 1) (terms_of ps ns))) (shorter_from t l c (drop (k + 1) (terms_of ps ns)))
+      ≡ cond p (q || shorter_from t l (common_of t t l) (drop (k + 1) (terms_of ps ns)))
+      (shorter_from t l c (drop (k + 1) (terms_of ps ns)))
   search-next p q h d f =
       ap (shorter_from t l c) (drop-terms ps ns e k h)
       ∙ ap₂
       (λ (x y : Bool).
-      cond x (y || shorter_from t l (common_of t t l) (drop (k + 1) (terms_of ps ns))) (shorter_from t l c (drop (k + 1) (terms_of ps ns)))) d f
+      cond x (y || shorter_from t l (common_of t t l) (drop (k + 1) (terms_of ps ns)))
+      (shorter_from t l c (drop (k + 1) (terms_of ps ns)))) d f
 
   pub search-end : length ps ≤ k → shorter_from t l c (drop k (terms_of ps ns)) ≡ false
   search-end h = ap (shorter_from t l c) (drop-end ps ns e k h)

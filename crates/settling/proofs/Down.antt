@@ -1,18 +1,17 @@
 -- Steps of the way down from a join to a least one inside it.
 use Prim.Native.Nat.{ℕ, ◌<◌}
-use mathlib.Core.Path.{◌≡◌, sym, subst}
+use mathlib.Core.Path.{◌≡◌, sym}
 use mathlib.Core.Bool.{true, ◌&&◌}
 use mathlib.Core.List.{List, Memᴰ}
 use lib.Dec.{T, ltb, ltb→lt}
 use lib.ListN.{length}
+use Rattle.std.specs.Prelude.{Some, None}
 use Rattle.masks.proofs.Tests.{and_l, and_r, along, is_true}
 use Rattle.terms.specs.Joins.{joins}
 use Rattle.terms.specs.Term.{literals, join, inside, terms_of}
 use Rattle.terms.specs.declared.Term.{Term}
 use Rattle.terms.proofs.Terms.{inside-refl, inside-i}
 use Rattle.lists.specs.Scans.{term_at, shorter, Found}
-use Rattle.lists.specs.declared.Shorter.{Shorter}
-use Rattle.lists.specs.declared.Shorter.TheVariants.{None, At}
 use Rattle.lists.proofs.Least.{shorter-down}
 use Rattle.lists.proofs.Parts.{term_in}
 use Rattle.settling.specs.Sides.{SidesAt, least_joins}
@@ -30,18 +29,17 @@ module _ {ap an bp bn : List ℕ} (h : SidesAt ap an bp bn) where
   high-in j l = term_in bp bn j h.even-high l
 
   -- no shorter join was found
-  pub ends : (t : Term) (r : Shorter) → Memᴰ t (joins (terms_of ap an) (terms_of bp bn)) → r ≡ None → Found ap an bp bn t r
+  pub ends : (t : Term) → Memᴰ t (joins (terms_of ap an) (terms_of bp bn)) → Found ap an bp bn t None
       → Memᴰ t (least_joins (terms_of ap an) (terms_of bp bn))
-  ends t r m n f = struck h.sides t m (subst (Found ap an bp bn t) n f)
+  ends t m f = struck h.sides t m f
 
   -- one was found
-  module _ (t : Term) (r : Shorter) (m : Memᴰ t (joins (terms_of ap an) (terms_of bp bn))) (k l : ℕ) (n : r ≡ At k l)
-      (f : Found ap an bp bn t r) where
+  module _ (t : Term) (m : Memᴰ t (joins (terms_of ap an) (terms_of bp bn))) (k l : ℕ) (f : Found ap an bp bn t (Some (k, l))) where
     abbrev next : Term
     next = join (term_at ap an k) (term_at bp bn l)
 
     found : T ((ltb k (length ap) && ltb l (length bp)) && shorter t (term_at ap an k) (term_at bp bn l))
-    found = along (sym (subst (Found ap an bp bn t) n f)) tt
+    found = along (sym f) tt
 
     there : T (ltb k (length ap) && ltb l (length bp))
     there = and_l (ltb k (length ap) && ltb l (length bp)) (shorter t (term_at ap an k) (term_at bp bn l)) found

@@ -7,6 +7,7 @@ use mathlib.Core.List.{List, Memᴰ}
 use native.Mathlib.Nat.{lt_irrefl, lt_of_lt_of_le}
 use native.Mathlib.Numerals.{add-one}
 use lib.ListN.{length}
+use Rattle.std.specs.Prelude.{Option, Some, None}
 use Rattle.masks.proofs.Tests.{below_suc}
 use Rattle.terms.specs.Term.{terms_of}
 use Rattle.terms.specs.declared.Term.{Term}
@@ -16,8 +17,6 @@ use Rattle.insertion.specs.Filled.{held}
 use Rattle.settling.specs.Growth.{Grew, Overflow, Keeps, Growing, Grown}
 use Rattle.settling.specs.Sides.{least_joins, KeptIn, Settled, SettledFrom}
 use Rattle.settling.specs.declared.counts.Counts.{Counts}
-use Rattle.settling.specs.declared.counts.Growth.{Growth}
-use Rattle.settling.specs.declared.counts.Growth.TheVariants.{To, Over}
 use Rattle.settling.proofs.Growth.{grew_none, grew-length, grew-front, grew_then, grew-insert, over-then, over-insert}
 use Rattle.settling.proofs.KeptTerms.{kept_in}
 use Rattle.settling.proofs.Least.{least-terms, settled-more}
@@ -25,17 +24,17 @@ use Rattle.settling.proofs.Least.{least-terms, settled-more}
 -- a term of `more` that is a least join was to be listed and kept
 module _ {ap an bp bn : List ℕ} {s : Bool → List ℕ} {kept : List ℕ} {c : Counts} (g : Growing ap an bp bn s kept c)
     (more : List Term) (t : Term) (m : Memᴰ t more) (n : Memᴰ t (least_joins (terms_of ap an) (terms_of bp bn))) where
-  pub kept-grown : (s' : Bool → List ℕ) (kept' : List ℕ) (done : List Term → Type 0) (r : Growth)
+  pub kept-grown : (s' : Bool → List ℕ) (kept' : List ℕ) (done : List Term → Type 0) (r : Option Counts)
       → ((l : List Term) → Memᴰ t l → done l) → Keeps t s kept c s' kept' r
       → Grown more (least_joins (terms_of ap an) (terms_of bp bn)) done s c.listed s' kept' r
-  kept-grown s' kept' done (To d) h k =
+  kept-grown s' kept' done (Some d) h k =
       let (grew, listed) = grew-insert g.front t (least-terms g.at.sides t n) m k.0 in (
         grew,
         kept_in g.keeps k.1 grew.keeps listed n,
         rw k.1.same g.room,
         h _ listed,
       )
-  kept-grown s' kept' done Over h k = over-insert g.front t (least-terms g.at.sides t n) m k
+  kept-grown s' kept' done None h k = over-insert g.front t (least-terms g.at.sides t n) m k
 
 -- what a row cost does not matter
 pub recounted : {ap an bp bn : List ℕ} {s : Bool → List ℕ} {kept : List ℕ} {c : Counts} → Growing ap an bp bn s kept c → (cost : ℕ)
@@ -44,10 +43,10 @@ recounted g cost = record { at = g.at; front = g.front; keeps = g.keeps; room = 
 
 -- what holds of the list may be said otherwise
 pub grown-so : (more least : List Term) (done done' : List Term → Type 0) (s : Bool → List ℕ) (count : ℕ) (s' : Bool → List ℕ)
-    (kept' : List ℕ) (r : Growth) → ((l : List Term) → done l → done' l) → Grown more least done s count s' kept' r
+    (kept' : List ℕ) (r : Option Counts) → ((l : List Term) → done l → done' l) → Grown more least done s count s' kept' r
     → Grown more least done' s count s' kept' r
-grown-so more least done done' s count s' kept' (To d) h g = (g.0, g.1, g.2, h _ g.3)
-grown-so more least done done' s count s' kept' Over h g = g
+grown-so more least done done' s count s' kept' (Some d) h g = (g.0, g.1, g.2, h _ g.3)
+grown-so more least done done' s count s' kept' None h g = g
 
 -- ---- a row: t was settled with the terms of b from a place on up to j, by a list that was s₀
 pub record SoFar (ap an bp bn : List ℕ) (t : Term) (from : ℕ) (s₀ : Bool → List ℕ) (count₀ : ℕ) (s : Bool → List ℕ) (kept : List ℕ)
@@ -102,5 +101,5 @@ module _ {ap an bp bn : List ℕ} {s₀ : Bool → List ℕ} {kept₀ : List ℕ
 
     pub so-far-end : length bp ≤ j
         → Grown (least_joins (terms_of ap an) (terms_of bp bn)) (least_joins (terms_of ap an) (terms_of bp bn))
-        (λ l. SettledFrom (least_joins (terms_of ap an) (terms_of bp bn)) l t bp bn from) s₀ c₀.listed s kept (To c)
+        (λ l. SettledFrom (least_joins (terms_of ap an) (terms_of bp bn)) l t bp bn from) s₀ c₀.listed s kept (Some c)
     so-far-end le = (h.grew, h.keeps, h.room, λ i l m. h.done i l (lt_of_lt_of_le m le))

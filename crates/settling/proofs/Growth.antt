@@ -7,6 +7,7 @@ use mathlib.Core.List.Memᴰ
 use mathlib.Core.List.{List, [], Memᴰ}
 use native.Mathlib.Nat.{lt_of_lt_of_le}
 use lib.ListN.{length}
+use Rattle.std.specs.Prelude.{Some, None}
 use Rattle.terms.specs.Lists.{insert, sort, Rising}
 use Rattle.terms.specs.Order.{before}
 use Rattle.terms.specs.Term.{IsTerm}
@@ -15,7 +16,6 @@ use Rattle.terms.proofs.Embeddings.{rising-length}
 use Rattle.terms.proofs.Listed.{before-total, inserted_rising, sorted-in, sorted-only}
 use Rattle.terms.proofs.Sorted.{insert-out, insert-in}
 use Rattle.insertion.specs.Filled.{held, Filled}
-use Rattle.insertion.specs.declared.Kept.TheVariants.{Count, Full}
 use Rattle.insertion.proofs.Again.{filled-length, filled-fits, filled-held, filled-then}
 use Rattle.insertion.proofs.Parts.{Even, kept_full, filled_none, filled-full}
 use Rattle.settling.specs.Growth.{Front, Grew, Overflow}
@@ -53,7 +53,7 @@ module _ {N : ℕ} {s : Bool → List ℕ} {count : ℕ} (f : Front N s count) {
     pub grew_then : {s'' : Bool → List ℕ} {d : ℕ} → Grew more s' c s'' d → Grew more s count s'' d
     grew_then {s''} {d} h =
         record {
-          holds = filled-then (held s' c) s s' (evens f) c g.holds (held s'' d) s'' (Count d) (longer h) h.holds;
+          holds = filled-then (held s' c) s s' (evens f) c g.holds (held s'' d) s'' (Some d) (longer h) h.holds;
           rising = h.rising;
           only = λ t m. ⊎_elim (g.only t) inr (h.only t m);
           keeps = λ t m. h.keeps t (g.keeps t m);
@@ -81,13 +81,13 @@ module _ {N : ℕ} {s : Bool → List ℕ} {count : ℕ} (f : Front N s count) {
     into : (u : Term) → (u ≡ t) ⊎ Memᴰ u (held s count) → Memᴰ u (insert (before []) t (held s count))
     into = insert-in (before []) (IsTerm N) (before-total [] N) t (held s count) k f.terms
 
-    pub grew-insert : {s' : Bool → List ℕ} {c : ℕ} → Filled (insert (before []) t (held s count)) s s' (Count c)
+    pub grew-insert : {s' : Bool → List ℕ} {c : ℕ} → Filled (insert (before []) t (held s count)) s s' (Some c)
         → Grew more s count s' c × Memᴰ t (held s' c)
     grew-insert {s'} {c} h =
         let e : held s' c ≡ insert (before []) t (held s count) =
         filled-held (insert (before []) t (held s count)) s s' (evens f) c h in (
           record {
-            holds = subst (λ (l : List Term). Filled l s s' (Count c)) (sym e) h;
+            holds = subst (λ (l : List Term). Filled l s s' (Some c)) (sym e) h;
             rising = subst (Rising (before [])) (sym e) (inserted_rising [] t (held s count) f.rising);
             only = λ u n. only-these u (subst (λ (l : List Term). Memᴰ u l) e n);
             keeps = λ u n. subst (λ (l : List Term). Memᴰ u l) (sym e) (into u (inr n));
@@ -95,7 +95,7 @@ module _ {N : ℕ} {s : Bool → List ℕ} {count : ℕ} (f : Front N s count) {
           subst (λ (l : List Term). Memᴰ t l) (sym e) (into t (inl refl)),
         )
 
-    pub over-insert : {s' : Bool → List ℕ} → Filled (insert (before []) t (held s count)) s s' Full → Overflow more s count
+    pub over-insert : {s' : Bool → List ℕ} → Filled (insert (before []) t (held s count)) s s' None → Overflow more s count
     over-insert h =
         record {
           list = insert (before []) t (held s count);
@@ -115,13 +115,13 @@ module _ {N : ℕ} {s : Bool → List ℕ} {count : ℕ} (f : Front N s count) {
         nothing-held t n = Memᴰ.not-nil (subst (λ (k : ℕ). Memᴰ t (held s k)) none n)
 
     pub grew-whole : {s' : Bool → List ℕ} {c : ℕ} → Grew more s count s' c
-        → ((t : Term) → Memᴰ t more → Memᴰ t (held s' c)) → Filled (sort (before []) more) s s' (Count c)
+        → ((t : Term) → Memᴰ t more → Memᴰ t (held s' c)) → Filled (sort (before []) more) s s' (Some c)
     grew-whole {s'} {c} g all =
-        subst (λ (l : List Term). Filled l s s' (Count c))
+        subst (λ (l : List Term). Filled l s s' (Some c))
         (sorted-only [] N (held s' c) more g.rising terms (empty-only g.only) all)
         g.holds
 
-    pub over-whole : {s' : Bool → List ℕ} → Overflow more s count → Filled (sort (before []) more) s s' Full
+    pub over-whole : {s' : Bool → List ℕ} → Overflow more s count → Filled (sort (before []) more) s s' None
     over-whole {s'} o =
         filled-full (sort (before []) more) s s'
         (lt_of_lt_of_le o.over (rising-length [] o.list (sort (before []) more) o.rising

@@ -4,6 +4,7 @@ use mathlib.Core.Path.{◌≡◌, sym, subst, ◌∙◌}
 use mathlib.Core.Bool.{Bool, true, false, true≢false}
 use mathlib.Core.Logic.{◌⊎◌, inl, inr}
 use mathlib.Core.List.{List}
+use Rattle.std.specs.Prelude.{Option, Some}
 use Rattle.masks.proofs.Tests.{along, is_true}
 use Rattle.terms.specs.Term.{join, inside, conflict}
 use Rattle.terms.specs.declared.Term.{Term}
@@ -23,11 +24,11 @@ module _ {kept : List ℕ} {k : ℕ} {t u : Term} {r : Tried} (v : Term) (e : v 
       }
 
   -- there is no conflict, and the answer is that of a test for a kept term
-  pub tries-kept : (q : Term) (h : ℕ) (b : Bool) → conflict t v ≡ false → q ≡ join t v
-      → (b ≡ true → (h < k) × (inside (kept_at kept h) q ≡ true)) → r.settled ≡ b → Tries kept k t u r
-  tries-kept q h b c d found s =
+  pub tries-kept : (q : Term) (hint : Option ℕ) (b : Bool) → conflict t v ≡ false → q ≡ join t v
+      → (b ≡ true → (h : ℕ) × (hint ≡ Some h) × (h < k) × (inside (kept_at kept h) q ≡ true)) → r.settled ≡ b → Tries kept k t u r
+  tries-kept q hint b c d found s =
       record {
-        yes = λ y. let (l, i) = found (sym s ∙ y) in
+        yes = λ y. let (h, n, l, i) = found (sym s ∙ y) in
             let one = subst (λ (z : Term). inside (kept_at kept h) z ≡ true) d i in
             inr (h, l, subst (λ (z : Term). inside (kept_at kept h) (join t z) ≡ true) e one);
         no = λ n. subst (λ (z : Term). conflict t z ≡ false) e c;
@@ -51,9 +52,10 @@ tried-settled {least} {l} {kept} {k} t u h p e = go (p.yes e)
         inr (record { term = kept_at kept j; is-listed = h.are-listed j m; is-least = h.are-least j m; is-inside = i })
 
 -- a kept term inside t settles all of its pairs
-pub row-covered : {least l : List Term} {kept : List ℕ} {k : ℕ} (t : Term) (bp bn : List ℕ) (from h : ℕ) → KeptIn least l kept k
-    → (h < k) × (inside (kept_at kept h) t ≡ true) → SettledFrom least l t bp bn from
-row-covered {least} {l} {kept} {k} t bp bn from h keeps (m, i) j le lt =
+pub row-covered : {least l : List Term} {kept : List ℕ} {k : ℕ} (t : Term) (bp bn : List ℕ) (from : ℕ) (hint : Option ℕ)
+    → KeptIn least l kept k → (h : ℕ) × (hint ≡ Some h) × (h < k) × (inside (kept_at kept h) t ≡ true)
+    → SettledFrom least l t bp bn from
+row-covered {least} {l} {kept} {k} t bp bn from hint keeps (h, n, m, i) j le lt =
     inr
     (record {
       term = kept_at kept h;

@@ -11,7 +11,7 @@ ghost use Rattle.settling.specs.Growth.{Growing, Grown};
 ghost use Rattle.settling.specs.Sides.{least_joins, Covered, Settled, SettledFrom};
 ghost use Rattle.settling.specs.Tries.{Tries};
 
-use super::counts::{Counts, Growth, keep};
+use super::counts::{Counts, keep};
 use super::strike::strike;
 use terms::Term;
 
@@ -103,7 +103,7 @@ fn add_least(
     bn: &[u64],
     counts: Counts,
     q: Term,
-) -> Growth
+) -> Option<Counts>
     requires growing { Growing ap.now an.now bp.now bn.now (by_sign positives.old negatives.old) kept.old counts }
     requires fact { Memᴰ q (joins (terms_of ap.now an.now) (terms_of bp.now bn.now)) }
     ensures { Grown (least_joins (terms_of ap.now an.now) (terms_of bp.now bn.now))
@@ -127,7 +127,7 @@ fn settle(
     bn: &[u64],
     pair: Pair,
     tried: Tried,
-) -> Growth
+) -> Option<Counts>
     requires growing { Growing ap.now an.now bp.now bn.now (by_sign positives.old negatives.old) kept.old pair.counts }
     requires low_in_bounds { (pair.low < length ap.now) × (pair.high < length bp.now) }
     requires settled { (tried.settled ≡ true → Settled (least_joins (terms_of ap.now an.now) (terms_of bp.now bn.now))
@@ -143,12 +143,11 @@ fn settle(
 {
     let counts = pair.counts;
     let spent = Counts {
-        listed: counts.listed,
-        kept: counts.kept,
         cost: tried.cost,
+        ..counts
     };
     if tried.settled {
-        return Growth::To(spent);
+        return Some(spent);
     }
     let i = pair.low;
     let j = pair.high;
@@ -184,7 +183,7 @@ pub struct Row {
     pub at: usize,
     pub from: usize,
     pub made: bool,
-    pub hint: usize,
+    pub hint: Option<usize>,
 }
 
 // Settles a term of a with the terms of b from a place on.
@@ -199,7 +198,7 @@ fn join_row(
     bp: &[u64],
     bn: &[u64],
     row: Row,
-) -> Growth
+) -> Option<Counts>
     requires growing { Growing ap.now an.now bp.now bn.now (by_sign positives.old negatives.old) kept.old row.counts }
     requires at_in_bounds { (row.at < length ap.now) × HasColumns (bit_words (length bp.now)) columns.old }
     ensures { Grown (least_joins (terms_of ap.now an.now) (terms_of bp.now bn.now))
@@ -215,13 +214,8 @@ fn join_row(
     let t = lists::term_at(ap, an, at);
     let words = hints::bit_words(bp.len());
     let mut left = [0u64; hints::MAX_WORDS];
-    let mut counts = Counts {
-        listed: start.listed,
-        kept: start.kept,
-        cost: 0,
-    };
-    let mut j = row.from;
-    while j < bp.len() {
+    let mut counts = Counts { cost: 0, ..start };
+    for j in row.from..bp.len() {
         let pair = Pair {
             low: at,
             high: j,
@@ -229,10 +223,7 @@ fn join_row(
             made,
         };
         let tried = try_kept(kept, hints, columns, &mut left, bp, bn, t, pair);
-        let Growth::To(next) = settle(positives, negatives, kept, ap, an, bp, bn, pair, tried)
-        else {
-            return Growth::Over;
-        };
+        let next = settle(positives, negatives, kept, ap, an, bp, bn, pair, tried)?;
         spread_new(
             kept,
             hints,
@@ -244,9 +235,8 @@ fn join_row(
             next.kept,
         );
         counts = next;
-        j += 1;
     }
-    Growth::To(counts)
+    Some(counts)
 }
 
 // Settles a term of a with the terms of b from a place on: at once where the kept term at its hint is inside it.
@@ -261,7 +251,7 @@ pub fn settle_row(
     bp: &[u64],
     bn: &[u64],
     row: Row,
-) -> Growth
+) -> Option<Counts>
     requires growing { Growing ap.now an.now bp.now bn.now (by_sign positives.old negatives.old) kept.old row.counts }
     requires at_in_bounds { (row.at < length ap.now) × HasColumns (bit_words (length bp.now)) columns.old }
     ensures { Grown (least_joins (terms_of ap.now an.now) (terms_of bp.now bn.now))
@@ -276,7 +266,7 @@ pub fn settle_row(
     let count = counts.kept;
     let hint = row.hint;
     if hints::covers(kept, count, hint, lists::term_at(ap, an, at)) {
-        return Growth::To(counts);
+        return Some(counts);
     }
     join_row(
         positives, negatives, kept, hints, columns, ap, an, bp, bn, row,

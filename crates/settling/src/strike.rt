@@ -5,7 +5,6 @@ ghost use Rattle.terms.specs.Joins.{joins};
 ghost use Rattle.terms.specs.Term.{inside, terms_of};
 ghost use Rattle.settling.specs.Sides.{SidesAt, least_joins};
 
-use lists::Shorter;
 use terms::Term;
 
 // A least join inside the join q: while there is a shorter join inside, that one.
@@ -16,14 +15,8 @@ pub fn strike(ap: &[u64], an: &[u64], bp: &[u64], bn: &[u64], q: Term) -> Term
         × (inside result q ≡ true) }
 {
     let mut t = q;
-    loop {
-        match lists::find_shorter(ap, an, bp, bn, t) {
-            Shorter::None => {
-                return t;
-            }
-            Shorter::At(k, l) => {
-                t = terms::join(lists::term_at(ap, an, k), lists::term_at(bp, bn, l));
-            }
-        }
+    while let Some((k, l)) = lists::find_shorter(ap, an, bp, bn, t) {
+        t = terms::join(lists::term_at(ap, an, k), lists::term_at(bp, bn, l));
     }
+    t
 }

@@ -7,6 +7,7 @@ use mathlib.Core.List.{List, [], ◌∷◌, Memᴰ}
 use native.Mathlib.Omega.{arith}
 use lib.Dec.{T, not_T, ltb, ltb→lt, nltb→le}
 use lib.ListN.{length}
+use Rattle.std.specs.Prelude.{Option, Some, None, Ok, Err}
 use Rattle.masks.proofs.Tests.{is_true, is_false, along, decide}
 use Rattle.terms.specs.Lists.{any}
 use Rattle.terms.specs.Term.{inside, terms_of}
@@ -16,11 +17,8 @@ use Rattle.terms.proofs.Terms.{inside-refl, inside-i}
 use Rattle.lists.specs.Scans.{term_at}
 use Rattle.lists.proofs.Parts.{length-terms, term_in}
 use Rattle.insertion.specs.Filled.{Level, Placed}
-use Rattle.insertion.specs.declared.Place.TheVariants.{Present, At}
 use Rattle.insertion.proofs.Inserted.{entry-terms, absent}
 use Rattle.subsumption.specs.Ahead.{ahead, OverSome, Searchable, FoundBefore, FoundInside}
-use Rattle.subsumption.specs.declared.Found.{Found}
-use Rattle.subsumption.specs.declared.Found.TheVariants.{Nowhere}
 use Rattle.subsumption.proofs.Ahead.{inside-ahead}
 
 -- a test that fails at every place fails in the list
@@ -36,7 +34,7 @@ module _ (ps ns : List ℕ) (end : ℕ) (t : Term) (q : Searchable ps ns end t) 
   o = q.terms
 
   -- where t is found, t itself stands
-  pub found-itself : (k : ℕ) → Placed t (terms_of ps ns) (Present k) → FoundInside ps ns t (Found.At k)
+  pub found-itself : (k : ℕ) → Placed t (terms_of ps ns) (Ok k) → FoundInside ps ns t (Some k)
   found-itself k p =
       let u : Term = term_at ps ns k in
       let l : k < length ps = omega (arith, p.0, length-terms ps ns q.even) in
@@ -45,7 +43,7 @@ module _ (ps ns : List ℕ) (end : ℕ) (t : Term) (q : Searchable ps ns end t) 
       before-total [] o.over t u o.is_term (o.terms u (term_in ps ns k q.even l)) (along level.0) (along level.1) in
       (l, is_true (inside u t) (subst (λ (z : Term). T (inside z t)) same (inside-i o.over t t (inside-refl t))))
 
-  module _ (j : ℕ) (p : Placed t (terms_of ps ns) (At j)) where
+  module _ (j : ℕ) (p : Placed t (terms_of ps ns) (Err j)) where
     -- where t is not in the list, a term that is not ahead of t is not inside it
     missed : (k : ℕ) → k < length ps → ahead (term_at ps ns k) t ≡ false → inside (term_at ps ns k) t ≡ false
     missed k l a =
@@ -57,9 +55,9 @@ module _ (ps ns : List ℕ) (end : ℕ) (t : Term) (q : Searchable ps ns end t) 
         (not_T (inside u t) (λ s. along a (inside-ahead o.over o.wide u t (o.terms u m) o.is_term s other)))
 
     -- so a search before `end` is enough
-    pub found_before : (f : Found) → FoundBefore ps ns end t f → FoundInside ps ns t f
-    found_before (Found.At k) h = (omega (arith, h.0, q.within), h.1)
-    found_before Nowhere h =
+    pub found_before : (f : Option ℕ) → FoundBefore ps ns end t f → FoundInside ps ns t f
+    found_before (Some k) h = (omega (arith, h.0, q.within), h.1)
+    found_before None h =
         none_passes (λ u. inside u t) ps ns
         (λ k l.
         ⊎_elim (λ (b : T (ltb k end)). h k (ltb→lt k end b))

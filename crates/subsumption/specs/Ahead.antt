@@ -1,5 +1,5 @@
 -- What a search for a term inside another finds in a list in order, and where it may stop. No public contract rests on these.
-use Rattle.std.specs.Prelude.{ℕ, ◌<◌, ◌≤◌, ◌≡◌, Bool, true, false, ltb, length}
+use Rattle.std.specs.Prelude.{ℕ, ◌<◌, ◌≤◌, ◌≡◌, Bool, true, false, ltb, length, Option, Some, None}
 use mathlib.Core.List.{List, [], Memᴰ}
 use Rattle.masks.specs.Mask.{width}
 use Rattle.terms.specs.Joins.{holds_one}
@@ -8,8 +8,6 @@ use Rattle.terms.specs.Order.{before}
 use Rattle.terms.specs.Term.{literals, inside, terms_of, IsTerm}
 use Rattle.terms.specs.declared.Term.{Term}
 use Rattle.lists.specs.Scans.{term_at}
-use Rattle.subsumption.specs.declared.Found.{Found}
-use Rattle.subsumption.specs.declared.Found.TheVariants.{At, Nowhere}
 
 -- u comes earlier than t by the first part of the order's key, as each term inside t does but t itself
 unfoldable pub ahead : Term → Term → Bool
@@ -35,11 +33,11 @@ pub record Searchable (ps ns : List ℕ) (end : ℕ) (t : Term) : Type 0 where
   pub terms : OverSome t (terms_of ps ns)
 
 -- what a search in the terms before `end` for one inside t finds
-abbrev pub FoundBefore : List ℕ → List ℕ → ℕ → Term → Found → Type 0
-FoundBefore ps ns end t (At k) = (k < end) × (inside (term_at ps ns k) t ≡ true)
-FoundBefore ps ns end t Nowhere = (k : ℕ) → k < end → inside (term_at ps ns k) t ≡ false
+abbrev pub FoundBefore : List ℕ → List ℕ → ℕ → Term → Option ℕ → Type 0
+FoundBefore ps ns end t (Some k) = (k < end) × (inside (term_at ps ns k) t ≡ true)
+FoundBefore ps ns end t None = (k : ℕ) → k < end → inside (term_at ps ns k) t ≡ false
 
 -- what a search in the whole list finds
-abbrev pub FoundInside : List ℕ → List ℕ → Term → Found → Type 0
-FoundInside ps ns t (At k) = (k < length ps) × (inside (term_at ps ns k) t ≡ true)
-FoundInside ps ns t Nowhere = holds_one (terms_of ps ns) t ≡ false
+abbrev pub FoundInside : List ℕ → List ℕ → Term → Option ℕ → Type 0
+FoundInside ps ns t (Some k) = (k < length ps) × (inside (term_at ps ns k) t ≡ true)
+FoundInside ps ns t None = holds_one (terms_of ps ns) t ≡ false

@@ -7,15 +7,7 @@ ghost use Rattle.terms.specs.Order.{before};
 ghost use Rattle.terms.specs.Term.{terms_of};
 ghost use Rattle.subsumption.specs.Ahead.{ahead, NoneAhead, Searchable, FoundBefore, FoundInside};
 
-use insertion::Place;
 use terms::Term;
-
-// The place of a term inside the given one, or that there is none.
-#[derive(Clone, Copy)]
-pub enum Found {
-    At(usize),
-    Nowhere,
-}
 
 // u comes earlier than t by the first part of the order's key.
 fn is_ahead(u: Term, t: Term) -> bool
@@ -31,43 +23,45 @@ pub fn end_ahead(positives: &[u64], negatives: &[u64], from: usize, t: Term) -> 
     ensures { (from ≤ result) × (result ≤ length positives.now)
         × NoneAhead positives.now negatives.now t result }
 {
-    let mut k = from;
-    while k < positives.len() {
+    for k in from..positives.len() {
         if !is_ahead(lists::term_at(positives, negatives, k), t) {
             return k;
         }
-        k += 1;
     }
-    k
+    positives.len()
 }
 
-// A term inside t among those before `end`.
-fn scan(positives: &[u64], negatives: &[u64], end: usize, t: Term) -> Found
+// The place of a term inside t among those before `end`.
+fn scan(positives: &[u64], negatives: &[u64], end: usize, t: Term) -> Option<usize>
     requires { (length negatives.now ≡ length positives.now) × (end ≤ length positives.now) }
     ensures { FoundBefore positives.now negatives.now end t result }
 {
-    let mut k = 0;
-    while k < end {
+    for k in 0..end {
         if terms::inside(lists::term_at(positives, negatives, k), t) {
-            return Found::At(k);
+            return Some(k);
         }
-        k += 1;
     }
-    Found::Nowhere
+    None
 }
 
-// A term inside t: a guess first, then t itself by halving, then those before `end`, since from there on none is ahead of t.
-pub fn find_inside(positives: &[u64], negatives: &[u64], end: usize, guess: usize, t: Term) -> Found
+// The place of a term inside t: a guess first, then t itself by halving, then those before `end`, since from there on none is ahead of t.
+pub fn find_inside(
+    positives: &[u64],
+    negatives: &[u64],
+    end: usize,
+    guess: usize,
+    t: Term,
+) -> Option<usize>
     requires { Searchable positives.now negatives.now end t }
     ensures { FoundInside positives.now negatives.now t result }
 {
     if guess < positives.len() {
         if terms::inside(lists::term_at(positives, negatives, guess), t) {
-            return Found::At(guess);
+            return Some(guess);
         }
     }
     match insertion::locate(positives, negatives, t) {
-        Place::Present(k) => Found::At(k),
-        Place::At(_) => scan(positives, negatives, end, t),
+        Ok(k) => Some(k),
+        Err(_) => scan(positives, negatives, end, t),
     }
 }

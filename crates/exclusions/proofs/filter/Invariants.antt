@@ -1,6 +1,5 @@
 -- `exclusions::filter` meets its contract. The loop's invariant: the list is filtered up to term k.
-use Prim.Native.Nat.{◌-◌, ◌≤◌}
-use mathlib.Core.Path.{◌≡◌}
+use Prim.Native.Nat.{◌≤◌}
 use lib.ListN.{length, drop}
 use Rattle.terms.specs.Term.{terms_of}
 use Rattle.insertion.specs.Filled.{by_sign}
@@ -11,11 +10,7 @@ use Rattle.exclusions.proofs.filter.Given as goal
 
 abbrev pub invariant-loop-k : goal.invariant-loop-k
 invariant-loop-k l =
-    (l.k ≤ length l.lp) × (l.count ≤ l.k) × (length l.positives ≡ length l.initial.positives)
-    × (length l.negatives ≡ length l.initial.negatives)
+    (l.count ≤ l.k)
     × ((e : Exclusions) → Folded e (length e.firsts) l.partners l.heads
     → Filtering e (terms_of l.lp l.ln) (drop l.k (terms_of l.lp l.ln)) (length l.initial.positives) (by_sign l.positives
     l.negatives) l.count)
-
-abbrev pub decreases-loop-k : goal.decreases-loop-k
-decreases-loop-k l = length l.lp - l.k

@@ -8,4 +8,4 @@ pub overflow_cast-result : goal.overflow_cast-result
 overflow_cast-result c = omega (arith, trailing_le width c.args.mask)
 
 pub returns : goal.returns
-returns c = trailing_le width c.args.mask
+returns c = (omega arith, trailing_le width c.args.mask)

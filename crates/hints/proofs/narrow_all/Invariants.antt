@@ -2,8 +2,8 @@
 use Prim.Native.Nat.{◌≤◌}
 use Rattle.hints.proofs.narrow_all.Given as goal
 
-abbrev pub invariant-loop-rest : goal.invariant-loop-rest
-invariant-loop-rest l = l.rest ≤ l.mask
+abbrev pub invariant-loop-v : goal.invariant-loop-v
+invariant-loop-v l = l.rest ≤ l.mask
 
-abbrev pub decreases-loop-rest : goal.decreases-loop-rest
-decreases-loop-rest l = l.rest
+abbrev pub decreases-loop-v : goal.decreases-loop-v
+decreases-loop-v l = l.rest

@@ -3,10 +3,10 @@ use Prim.Native.Nat.{ℕ}
 use mathlib.Core.Path.{sym, subst, ◌∙◌}
 use mathlib.Core.Bool.{Bool, true, false}
 use mathlib.Core.List.{List, [], ◌∷◌}
+use Rattle.std.specs.Prelude.{Some}
 use Rattle.terms.specs.declared.Term.{Term}
 use Rattle.terms.proofs.Built.{with-one}
 use Rattle.insertion.specs.Filled.{by_sign}
-use Rattle.insertion.specs.declared.Kept.TheVariants.{Count}
 use Rattle.insertion.proofs.Parts.{even, filled_none}
 use Rattle.joins.specs.Added.{Added}
 use Rattle.joins.proofs.add_join.Goals as goal
@@ -14,7 +14,8 @@ use Rattle.joins.proofs.add_join.Goals as goal
 pub returns-then-conflict : goal.returns-then-conflict
 returns-then-conflict c =
     let x = c.args in
-    subst (λ (l : List Term). Added l (by_sign x.positives.now x.negatives.now) x.count (by_sign x.positives.now x.negatives.now) (Count x.count))
+    subst (λ (l : List Term). Added l (by_sign x.positives.now x.negatives.now) x.count (by_sign x.positives.now x.negatives.now)
+    (Some x.count))
     (sym (with-one x.t x.u true (sym c.conflict.ensures ∙ c.if-conflict.true)))
     (filled_none (by_sign x.positives.now x.negatives.now) (even x.positives.now x.negatives.now c.requires.1) x.count c.requires.0)
 
@@ -24,4 +25,5 @@ returns c =
     let s' : Bool → List ℕ = by_sign c.insert.new.positives c.insert.new.negatives in
     subst (λ (l : List Term). Added l (by_sign x.positives.now x.negatives.now) x.count s' c.insert.result)
     (sym (with-one x.t x.u false (sym c.conflict.ensures ∙ c.if-conflict.false)))
-    (subst (λ (t : Term). Added (t ∷ []) (by_sign x.positives.now x.negatives.now) x.count s' c.insert.result) c.join.ensures c.insert.ensures)
+    (subst (λ (t : Term). Added (t ∷ []) (by_sign x.positives.now x.negatives.now) x.count s' c.insert.result) c.join.ensures
+    c.insert.ensures)

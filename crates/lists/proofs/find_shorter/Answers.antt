@@ -78,6 +78,7 @@ pub returns-then-is_short-2 : goal.returns-then-is_short-2
 returns-then-is_short-2 c =
     let x = c.args in
     let a : Term = c.term_at-a.result in
-    shorter-at x.ap.now x.an.now x.bp.now x.bn.now c.loop-k.k c.loop-l.l x.t c.loop-k.shared a (omega arith) (omega arith) c.term_at-a.ensures
+    shorter-at x.ap.now x.an.now x.bp.now x.bn.now c.loop-k.k c.loop-l.l x.t c.loop-k.shared a (omega arith) (omega arith)
+    c.term_at-a.ensures
     (sym c.is_short.ensures ∙ c.if-is_short.true)
     (sym (ap (short x.t a) c.term_at-b.ensures) ∙ sym c.is_short-in-loop-l.ensures ∙ c.if-is_short-2.true)

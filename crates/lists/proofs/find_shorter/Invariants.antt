@@ -14,4 +14,5 @@ invariant-loop-l l =
 
 abbrev pub invariant-loop-k : goal.invariant-loop-k
 invariant-loop-k l =
-    (shorter_from l.t (terms_of l.bp l.bn) l.shared (drop l.k (terms_of l.ap l.an)) ≡ shorter_join (terms_of l.ap l.an) (terms_of l.bp l.bn) l.t)
+    shorter_from l.t (terms_of l.bp l.bn) l.shared (drop l.k (terms_of l.ap l.an))
+    ≡ shorter_join (terms_of l.ap l.an) (terms_of l.bp l.bn) l.t

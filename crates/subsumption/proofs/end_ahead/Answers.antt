@@ -14,11 +14,7 @@ returns-then-not-is_ahead c =
     sym (ap (λ (u : Term). ahead u x.t) c.term_at.ensures)
     ∙ sym c.is_ahead.ensures
     ∙ c.if-not-is_ahead.true in (
-      c.loop-k.invariant.0,
-      c.loop-k.invariant.1,
+      omega arith,
+      omega arith,
       none_ahead x.positives.now x.negatives.now c.requires.negatives_len.0 c.requires.rising x.t c.loop-k.k level,
     )
-
-pub returns : goal.returns
-returns c =
-    (c.loop-k.invariant.0, c.loop-k.invariant.1, λ i h j. absurd (omega arith))

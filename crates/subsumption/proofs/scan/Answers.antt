@@ -7,19 +7,15 @@ use Rattle.terms.specs.declared.Term.{Term}
 use Rattle.lists.specs.Scans.{term_at}
 use Rattle.subsumption.proofs.scan.Goals as goal
 
-pub loop-k-init : goal.loop-k-init
-loop-k-init c = (omega arith, λ i h. absurd (omega arith))
-
 pub returns-then-inside : goal.returns-then-inside
-returns-then-inside c = (omega arith, sym (ap (λ (u : Term). inside u c.args.t) c.term_at.ensures) ∙ sym c.inside.ensures ∙ c.if-inside.true)
+returns-then-inside c = (
+  omega arith,
+  sym (ap (λ (u : Term). inside u c.args.t) c.term_at.ensures) ∙ sym c.inside.ensures ∙
+      c.if-inside.true,
+)
 
 pub loop-k-preserved : goal.loop-k-preserved
 loop-k-preserved c =
-    let x = c.args in (
-      omega arith,
-      below_more (λ i. inside (term_at x.positives.now x.negatives.now i) x.t ≡ false) c.loop-k.k c.loop-k.invariant.1
-          (sym (ap (λ (u : Term). inside u c.args.t) c.term_at.ensures) ∙ sym c.inside.ensures ∙ c.if-inside.false),
-    )
-
-pub returns : goal.returns
-returns c = λ k h. c.loop-k.invariant.1 k (omega arith)
+    let x = c.args in
+    below_more (λ i. inside (term_at x.positives.now x.negatives.now i) x.t ≡ false) c.loop-k.k c.loop-k.invariant
+    (sym (ap (λ (u : Term). inside u c.args.t) c.term_at.ensures) ∙ sym c.inside.ensures ∙ c.if-inside.false)

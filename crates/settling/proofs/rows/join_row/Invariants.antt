@@ -1,9 +1,5 @@
 -- `settling::rows::join_row` meets its contract. The invariant: the pairs of the row up to j are settled.
-use Prim.Native.Nat.{◌-◌}
-use mathlib.Core.Path.{◌≡◌}
-use lib.ListN.{length}
 use Rattle.lists.specs.Scans.{term_at}
-use Rattle.hints.specs.Scratch.{max_words}
 use Rattle.insertion.specs.Filled.{by_sign}
 use Rattle.settling.proofs.Grows.{SoFar}
 use Rattle.settling.proofs.rows.join_row.Given as goal
@@ -12,9 +8,3 @@ abbrev pub invariant-loop-j : goal.invariant-loop-j
 invariant-loop-j l =
     SoFar l.ap l.an l.bp l.bn (term_at l.ap l.an l.at) l.initial.j (by_sign l.initial.positives l.initial.negatives)
     l.initial.counts.listed (by_sign l.positives l.negatives) l.kept l.counts l.j
-    × (length l.kept ≡ length l.initial.kept) × (length l.left ≡ max_words)
-    × (length l.hints ≡ length l.initial.hints) × (length l.columns ≡ length l.initial.columns)
-
-abbrev pub decreases-loop-j : goal.decreases-loop-j
-decreases-loop-j l =
-    length l.bp - l.j

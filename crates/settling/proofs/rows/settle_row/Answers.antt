@@ -1,7 +1,8 @@
 -- `settling::rows::settle_row` meets its contract.
-use Prim.Native.Nat.{◌<◌}
+use Prim.Native.Nat.{ℕ, ◌<◌}
 use mathlib.Core.Path.{◌≡◌, subst}
 use mathlib.Core.Bool.{true}
+use Rattle.std.specs.Prelude.{Some}
 use Rattle.terms.specs.Term.{inside}
 use Rattle.terms.specs.declared.Term.{Term}
 use Rattle.lists.specs.Scans.{term_at}
@@ -14,7 +15,8 @@ pub returns-then-covers : goal.returns-then-covers
 returns-then-covers c =
     let x = c.args in
     let g = c.requires.growing in
-    let found = subst (λ (t : Term). (x.row.hint < x.row.counts.kept) × (inside (kept_at x.kept.now x.row.hint) t ≡ true))
+    let found =
+    subst (λ (t : Term). (h : ℕ) × (x.row.hint ≡ Some h) × (h < x.row.counts.kept) × (inside (kept_at x.kept.now h) t ≡ true))
     c.term_at.ensures (c.covers.ensures c.if-covers.true) in (
       grew_none g.front,
       g.keeps,

@@ -6,8 +6,8 @@ use Rattle.terms.specs.Joins.{joins}
 use Rattle.terms.specs.Term.{literals, inside, terms_of}
 use Rattle.settling.proofs.strike.strike.Given as goal
 
-abbrev pub invariant-loop-t : goal.invariant-loop-t
-invariant-loop-t l = Memᴰ l.t (joins (terms_of l.ap l.an) (terms_of l.bp l.bn)) × (inside l.t l.initial.t ≡ true)
+abbrev pub invariant-loop-k : goal.invariant-loop-k
+invariant-loop-k l = Memᴰ l.t (joins (terms_of l.ap l.an) (terms_of l.bp l.bn)) × (inside l.t l.initial.t ≡ true)
 
-abbrev pub decreases-loop-t : goal.decreases-loop-t
-decreases-loop-t l = literals l.t
+abbrev pub decreases-loop-k : goal.decreases-loop-k
+decreases-loop-k l = literals l.t

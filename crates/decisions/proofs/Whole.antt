@@ -13,7 +13,7 @@ use Rattle.terms.specs.Order.{before}
 use Rattle.terms.specs.Term.{IsTerm, terms_of}
 use Rattle.terms.specs.declared.Term.{Term}
 use Rattle.lists.specs.Capacity.{max_capacity}
-use Rattle.lists.specs.Scans.{term_at}
+use Rattle.lists.specs.Entries.{term_at}
 use Rattle.insertion.specs.Filled.{held, Filled}
 use Rattle.insertion.specs.declared.Kept.TheVariants.{Count, Full}
 use Rattle.decisions.specs.Extended.{Extending, side_terms, ListsSide}

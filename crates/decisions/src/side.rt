@@ -2,7 +2,7 @@
 // decision's variable.
 ghost use Rattle.std.specs.Prelude.{◌<◌, length};
 ghost use Rattle.terms.specs.Term.{terms_of};
-ghost use Rattle.lists.specs.Scans.{term_at};
+ghost use Rattle.lists.specs.Entries.{term_at};
 ghost use Rattle.insertion.specs.Filled.{by_sign};
 ghost use Rattle.subsumption.specs.Ahead.{FoundInside};
 ghost use Rattle.settling.specs.Growth.{Grown};

@@ -11,7 +11,7 @@ use Rattle.terms.specs.Order.{before}
 use Rattle.terms.specs.Term.{terms_of}
 use Rattle.terms.specs.declared.Term.{Term}
 use Rattle.terms.proofs.Built.{with-step}
-use Rattle.lists.specs.Scans.{term_at}
+use Rattle.lists.specs.Entries.{term_at}
 use Rattle.lists.proofs.Parts.{drop-terms, drop-end}
 use Rattle.insertion.specs.Filled.{held, Filled}
 use Rattle.insertion.proofs.Again.{filled-length, filled-fits, filled-held}

@@ -14,7 +14,7 @@ use Rattle.terms.specs.Lists.{any, Rising}
 use Rattle.terms.specs.Order.{before}
 use Rattle.terms.specs.Term.{term, terms_of}
 use Rattle.terms.specs.declared.Term.{Term}
-use Rattle.lists.specs.Scans.{term_at}
+use Rattle.lists.specs.Entries.{term_at}
 
 pub length-terms : (ps ns : List ℕ) → length ns ≡ length ps → length (terms_of ps ns) ≡ length ps
 length-terms [] ns e = refl

@@ -17,7 +17,9 @@ use Rattle.terms.specs.Term.{term, empty, has, join, inside, terms_of}
 use Rattle.terms.specs.declared.Term.{Term}
 use Rattle.terms.proofs.Sorted.{any-i, any-e}
 use Rattle.terms.proofs.Terms.{Inside, inside-trans, join-l, join-r, join-least, inside-mono}
-use Rattle.lists.specs.Scans.{term_at, short, shorter, shorter_join, shorter_at, narrowed}
+use Rattle.lists.specs.Entries.{term_at}
+use Rattle.lists.specs.declared.list.TermList.{TermList}
+use Rattle.lists.specs.Scans.{short, shorter, shorter_join, shorter_at, narrowed}
 use Rattle.lists.proofs.Parts.{drop-terms, drop-end}
 
 -- the literals of c that every term of the list inside t has
@@ -168,13 +170,16 @@ module _ (ps ns : List ℕ) (e : length ns ≡ length ps) (k : ℕ) (t : Term) (
   search-end h = ap (shorter_from t l c) (drop-end ps ns e k h)
 
 -- a pair that passed both tests
-pub shorter-at : (ap an bp bn : List ℕ) (k l : ℕ) (t c a : Term) → k < length ap → l < length bp → a ≡ term_at ap an k
-    → short t c a ≡ true → short t a (term_at bp bn l) ≡ true → shorter_at ap an bp bn k l t ≡ true
+pub shorter-at : (x y : TermList) (k l : ℕ) (t c a : Term) → k < length x.positives.now → l < length y.positives.now
+    → a ≡ term_at x.positives.now x.negatives.now k → short t c a ≡ true
+    → short t a (term_at y.positives.now y.negatives.now l) ≡ true → shorter_at x y k l t ≡ true
 unfolding shorter short
-shorter-at ap an bp bn k l t c a hk hl e p q =
-    let b : Term = term_at bp bn l in
+shorter-at x y k l t c a hk hl e p q =
+    let m : ℕ = length x.positives.now in
+    let n : ℕ = length y.positives.now in
+    let b : Term = term_at y.positives.now y.negatives.now l in
     let within : T (inside a t) = and_l (inside a t) (not (inside t (join c a))) (along (sym p) tt) in
-    is_true (shorter_at ap an bp bn k l t)
-    (and_i (ltb k (length ap) && ltb l (length bp)) (shorter t (term_at ap an k) b)
-    (and_i (ltb k (length ap)) (ltb l (length bp)) (lt→ltb k (length ap) hk) (lt→ltb l (length bp) hl))
+    is_true (shorter_at x y k l t)
+    (and_i (ltb k m && ltb l n) (shorter t (term_at x.positives.now x.negatives.now k) b)
+    (and_i (ltb k m) (ltb l n) (lt→ltb k m hk) (lt→ltb l n hl))
     (subst (λ (z : Term). T (shorter t z b)) e (and_i (inside a t) (short t a b) within (along (sym q) tt))))

@@ -1,2 +1,4 @@
 pub mod Capacity
+pub mod Entries
+pub mod List
 pub mod Scans

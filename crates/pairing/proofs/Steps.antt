@@ -13,7 +13,7 @@ use Rattle.masks.proofs.Tests.{below_suc, decide}
 use Rattle.terms.specs.Term.{terms_of}
 use Rattle.terms.specs.declared.Term.{Term}
 use Rattle.lists.specs.Capacity.{max_capacity}
-use Rattle.lists.specs.Scans.{term_at}
+use Rattle.lists.specs.Entries.{term_at}
 use Rattle.insertion.specs.Filled.{held}
 use Rattle.settling.specs.Growth.{Grew, Overflow, Growing, Grown}
 use Rattle.settling.specs.Sides.{SidesAt, least_joins, Settled, SettledFrom, AllSettled, KeptIn, Stepped}

@@ -11,7 +11,8 @@ use Rattle.terms.specs.Joins.{joins}
 use Rattle.terms.specs.Term.{literals, join, inside, terms_of}
 use Rattle.terms.specs.declared.Term.{Term}
 use Rattle.terms.proofs.Terms.{inside-refl, inside-i}
-use Rattle.lists.specs.Scans.{term_at, shorter, Found}
+use Rattle.lists.specs.Entries.{term_at}
+use Rattle.lists.specs.Scans.{shorter, Found}
 use Rattle.lists.proofs.Least.{shorter-down}
 use Rattle.lists.proofs.Parts.{term_in}
 use Rattle.settling.specs.Sides.{SidesAt, least_joins}

@@ -19,7 +19,8 @@ use Rattle.terms.proofs.Conjunctions.{conj, conj-i, conj-l}
 use Rattle.terms.proofs.Implicants.{least-same}
 use Rattle.terms.proofs.Sorted.{keep_out, keep-in}
 use Rattle.terms.proofs.Terms.{Inside, join-IsTerm, inside-e, inside-i, inside-trans}
-use Rattle.lists.specs.Scans.{term_at, shorter_join}
+use Rattle.lists.specs.Entries.{term_at}
+use Rattle.lists.specs.Scans.{shorter_join}
 use Rattle.lists.proofs.Least.{Terms, shorter-joins}
 use Rattle.settling.specs.Sides.{Sides, least_joins, Covered, Settled}
 

@@ -9,7 +9,7 @@ use Rattle.masks.proofs.Tests.{along, is_true}
 use Rattle.terms.specs.Term.{join, inside, conflict}
 use Rattle.terms.specs.declared.Term.{Term}
 use Rattle.terms.proofs.Terms.{join-l, inside-mono}
-use Rattle.lists.specs.Scans.{term_at}
+use Rattle.lists.specs.Entries.{term_at}
 use Rattle.hints.specs.Kept.{kept_at}
 use Rattle.settling.specs.Sides.{KeptIn, Settled, SettledFrom}
 use Rattle.settling.specs.Tries.{Tries}

@@ -9,7 +9,7 @@ use Rattle.terms.specs.Prime.{Lists}
 use Rattle.terms.specs.Term.{has, join, inside, conflict, terms_of}
 use Rattle.terms.specs.declared.Term.{Term}
 use Rattle.lists.specs.Capacity.{max_capacity}
-use Rattle.lists.specs.Scans.{term_at}
+use Rattle.lists.specs.Entries.{term_at}
 use Rattle.hints.specs.Kept.{kept_at}
 
 -- the lists have the prime implicants of two functions, in order

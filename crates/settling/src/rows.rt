@@ -4,7 +4,7 @@ ghost use mathlib.Core.List.{Memᴰ};
 ghost use Rattle.terms.specs.Joins.{joins};
 ghost use Rattle.terms.specs.Term.{conflict, terms_of};
 ghost use Rattle.lists.specs.Capacity.{max_capacity};
-ghost use Rattle.lists.specs.Scans.{term_at};
+ghost use Rattle.lists.specs.Entries.{term_at};
 ghost use Rattle.hints.specs.Scratch.{max_words, bit_words, HasColumns};
 ghost use Rattle.insertion.specs.Filled.{by_sign, held};
 ghost use Rattle.settling.specs.Growth.{Growing, Grown};

@@ -18,7 +18,7 @@ use Rattle.terms.specs.declared.Term.{Term}
 use Rattle.terms.proofs.Built.{as_long}
 use Rattle.terms.proofs.Leaves.{before-literals}
 use Rattle.terms.proofs.Terms.{Inside, inside-e, term-ext}
-use Rattle.lists.specs.Scans.{term_at}
+use Rattle.lists.specs.Entries.{term_at}
 use Rattle.lists.proofs.Parts.{rising-at}
 use Rattle.subsumption.specs.Ahead.{ahead, NoneAhead}
 

@@ -14,7 +14,7 @@ use Rattle.terms.specs.Term.{inside, terms_of}
 use Rattle.terms.specs.declared.Term.{Term}
 use Rattle.terms.proofs.Listed.{before-total}
 use Rattle.terms.proofs.Terms.{inside-refl, inside-i}
-use Rattle.lists.specs.Scans.{term_at}
+use Rattle.lists.specs.Entries.{term_at}
 use Rattle.lists.proofs.Parts.{length-terms, term_in}
 use Rattle.insertion.specs.Filled.{Level, Placed}
 use Rattle.insertion.proofs.Inserted.{entry-terms, absent}

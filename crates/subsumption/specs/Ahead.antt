@@ -7,7 +7,7 @@ use Rattle.terms.specs.Lists.{Rising}
 use Rattle.terms.specs.Order.{before}
 use Rattle.terms.specs.Term.{literals, inside, terms_of, IsTerm}
 use Rattle.terms.specs.declared.Term.{Term}
-use Rattle.lists.specs.Scans.{term_at}
+use Rattle.lists.specs.Entries.{term_at}
 
 -- u comes earlier than t by the first part of the order's key, as each term inside t does but t itself
 unfoldable pub ahead : Term → Term → Bool

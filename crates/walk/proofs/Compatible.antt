@@ -11,7 +11,7 @@ use Rattle.terms.specs.Prime.{primes}
 use Rattle.terms.specs.Term.{conflict, terms_of}
 use Rattle.terms.specs.declared.Term.{Term}
 use Rattle.terms.proofs.Embeddings.{kept-length}
-use Rattle.lists.specs.Scans.{term_at}
+use Rattle.lists.specs.Entries.{term_at}
 use Rattle.lists.proofs.Parts.{drop-terms, drop-end}
 use Rattle.insertion.specs.Filled.{masks_of}
 use Rattle.insertion.proofs.Parts.{terms-masks, length-masks}

@@ -2,17 +2,17 @@
 use mathlib.Core.Path.{◌≡◌}
 use lib.ListN.{drop}
 use Rattle.terms.specs.Lists.{any}
-use Rattle.terms.specs.Term.{terms_of}
+use Rattle.lists.specs.List.{terms_in}
 use Rattle.lists.specs.Scans.{short, shorter_join}
 use Rattle.lists.proofs.Search.{common_of, shorter_from}
 use Rattle.lists.proofs.find_shorter.Given as goal
 
 abbrev pub invariant-loop-l : goal.invariant-loop-l
 invariant-loop-l l =
-    (any (short l.t l.a) (drop l.l (terms_of l.bp l.bn)) ≡ any (short l.t l.a) (terms_of l.bp l.bn))
-    × (common_of l.t l.next (drop l.l (terms_of l.bp l.bn)) ≡ common_of l.t l.t (terms_of l.bp l.bn))
+    (any (short l.t l.a) (drop l.l (terms_in l.second)) ≡ any (short l.t l.a) (terms_in l.second))
+    × (common_of l.t l.next (drop l.l (terms_in l.second)) ≡ common_of l.t l.t (terms_in l.second))
 
 abbrev pub invariant-loop-k : goal.invariant-loop-k
 invariant-loop-k l =
-    shorter_from l.t (terms_of l.bp l.bn) l.shared (drop l.k (terms_of l.ap l.an))
-    ≡ shorter_join (terms_of l.ap l.an) (terms_of l.bp l.bn) l.t
+    shorter_from l.t (terms_in l.second) l.shared (drop l.k (terms_in l.first))
+    ≡ shorter_join (terms_in l.first) (terms_in l.second) l.t

@@ -2,7 +2,7 @@ use mathlib.Core.Path.{◌≡◌, sym, ap, ◌∙◌}
 use mathlib.Core.Bool.{false}
 use native.Mathlib.Omega.{arith}
 use Rattle.terms.specs.declared.Term.{Term}
-use Rattle.lists.specs.Scans.{term_at}
+use Rattle.lists.specs.Entries.{term_at}
 use Rattle.subsumption.specs.Ahead.{ahead}
 use Rattle.subsumption.proofs.Ahead.{none_ahead}
 use Rattle.subsumption.proofs.end_ahead.Goals as goal

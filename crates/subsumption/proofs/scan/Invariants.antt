@@ -3,7 +3,7 @@ use Prim.Native.Nat.{ℕ, ◌<◌}
 use mathlib.Core.Path.{◌≡◌}
 use mathlib.Core.Bool.{false}
 use Rattle.terms.specs.Term.{inside}
-use Rattle.lists.specs.Scans.{term_at}
+use Rattle.lists.specs.Entries.{term_at}
 use Rattle.subsumption.proofs.scan.Given as goal
 
 abbrev pub invariant-loop-k : goal.invariant-loop-k

@@ -7,7 +7,7 @@ use Rattle.terms.specs.Lists.{insert}
 use Rattle.terms.specs.Order.{before}
 use Rattle.terms.specs.Term.{extend}
 use Rattle.terms.specs.declared.Term.{Term}
-use Rattle.lists.specs.Scans.{term_at}
+use Rattle.lists.specs.Entries.{term_at}
 use Rattle.insertion.specs.Filled.{by_sign, held, Filled}
 use Rattle.subsumption.specs.Ahead.{FoundInside}
 use Rattle.subsumption.specs.declared.Found.{Found}

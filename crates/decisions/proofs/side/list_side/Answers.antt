@@ -3,7 +3,7 @@ use mathlib.Core.Bool.{true, false}
 use native.Mathlib.Omega.{arith}
 use Rattle.terms.specs.Term.{IsTerm, terms_of}
 use Rattle.terms.specs.declared.Term.{Term}
-use Rattle.lists.specs.Scans.{term_at}
+use Rattle.lists.specs.Entries.{term_at}
 use Rattle.insertion.specs.Filled.{by_sign}
 use Rattle.subsumption.specs.Ahead.{FoundInside}
 use Rattle.decisions.specs.Extended.{side_terms, ListsOne}

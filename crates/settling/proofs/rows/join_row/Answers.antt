@@ -1,7 +1,7 @@
 use mathlib.Core.Path.{subst}
 use native.Mathlib.Omega.{arith}
 use Rattle.terms.specs.declared.Term.{Term}
-use Rattle.lists.specs.Scans.{term_at}
+use Rattle.lists.specs.Entries.{term_at}
 use Rattle.settling.specs.Tries.{Tries}
 use Rattle.settling.proofs.Grows.{so-far-start, so-far-growing, so-far-next, so-far-over, so-far-end}
 use Rattle.settling.proofs.Looks.{tried-settled}

@@ -5,7 +5,7 @@ use mathlib.Core.List.{List, Memᴰ}
 use Rattle.terms.specs.Joins.{joins}
 use Rattle.terms.specs.Term.{join, terms_of}
 use Rattle.terms.specs.declared.Term.{Term}
-use Rattle.lists.specs.Scans.{term_at}
+use Rattle.lists.specs.Entries.{term_at}
 use Rattle.settling.specs.Sides.{least_joins, Covered, Settled}
 use Rattle.settling.proofs.Down.{low-in, high-in}
 use Rattle.settling.proofs.Growth.{grew_none}

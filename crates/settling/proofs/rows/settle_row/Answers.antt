@@ -5,7 +5,7 @@ use mathlib.Core.Bool.{true}
 use Rattle.std.specs.Prelude.{Some}
 use Rattle.terms.specs.Term.{inside}
 use Rattle.terms.specs.declared.Term.{Term}
-use Rattle.lists.specs.Scans.{term_at}
+use Rattle.lists.specs.Entries.{term_at}
 use Rattle.hints.specs.Kept.{kept_at}
 use Rattle.settling.proofs.Growth.{grew_none}
 use Rattle.settling.proofs.Looks.{row-covered}

@@ -1,0 +1,17 @@
+-- The terms of a list, and the entries of a buffer.
+use Rattle.std.specs.Prelude.{ℕ, Bool, true, false, List}
+use Rattle.terms.specs.Term.{terms_of}
+use Rattle.terms.specs.declared.Term.{Term}
+use Rattle.lists.specs.declared.list.TermBuffer.{TermBuffer}
+use Rattle.lists.specs.declared.list.TermList.{TermList}
+
+abbrev pub terms_in : TermList → List Term
+terms_in l = terms_of l.positives.now l.negatives.now
+
+-- two slices by sign: the positive masks for true
+abbrev pub by_sign : List ℕ → List ℕ → Bool → List ℕ
+by_sign ps ns true = ps
+by_sign ps ns false = ns
+
+abbrev pub slots : TermBuffer → Bool → List ℕ
+slots b = by_sign b.positives.now b.negatives.now

@@ -1,0 +1,40 @@
+// Lists of terms, as two slices of one length: the positive masks, and the negative masks of the same terms.
+ghost use Rattle.std.specs.Prelude.{◌≡◌, ◌<◌, length};
+ghost use Rattle.lists.specs.Entries.{term_at};
+
+use terms::Term;
+
+// A list of terms.
+#[derive(Clone, Copy)]
+pub struct TermList<'a> {
+    pub positives: &'a [u64],
+    pub negatives: &'a [u64],
+    ghost same_length: { length negatives.now ≡ length positives.now },
+}
+
+impl<'a> TermList<'a> {
+    // How many terms there are.
+    pub fn len(self) -> usize
+        ensures { result ≡ length self.entry.positives.now }
+    {
+        self.positives.len()
+    }
+
+    // Term k.
+    pub fn at(self, k: usize) -> Term
+        requires { k < length self.positives.now }
+        ensures { result ≡ term_at self.entry.positives.now self.entry.negatives.now k }
+    {
+        Term {
+            positive: self.positives[k],
+            negative: self.negatives[k],
+        }
+    }
+}
+
+// Entries in which a list of terms is made.
+pub struct TermBuffer<'a> {
+    pub positives: &'a mut [u64],
+    pub negatives: &'a mut [u64],
+    ghost same_length: { length negatives.now ≡ length positives.now },
+}

@@ -11,6 +11,7 @@ ghost use Rattle.hints.specs.Kept.{kept_at, Put};
 ghost use Rattle.hints.specs.Scratch.{word_bits, max_words, bit_words, column_variables, column_count, HasColumns, max_cost};
 
 use lists::MAX_CAPACITY;
+use lists::list::TermList;
 use terms::Term;
 
 // The place of no kept term: what hints are before they are set.
@@ -131,17 +132,17 @@ fn mark(columns: &mut [u64], words: usize, first: usize, word: usize, bit: u64, 
 
 // The columns of a list: bit i % 64 of entry words * l + i / 64 says that term i has literal l, which is the positive one of variable l
 // below 40 and from there on the negative one of variable l - 40.
-pub fn fill_columns(columns: &mut [u64], positives: &[u64], negatives: &[u64])
-    requires { HasColumns (bit_words (length positives.now)) columns.old × (length negatives.now ≡ length positives.now)
-        × (length positives.now ≤ max_capacity) }
+pub fn fill_columns(columns: &mut [u64], list: TermList)
+    requires { HasColumns (bit_words (length list.positives.now)) columns.old × (length list.positives.now ≤ max_capacity) }
     ensures { length columns.new ≡ length columns.old }
 {
-    let words = bit_words(positives.len());
+    let words = bit_words(list.len());
     columns[..LITERALS * words].fill(0);
-    for i in 0..positives.len() {
+    for i in 0..list.len() {
+        let t = list.at(i);
         let bit = 1u64 << (i % WORD_BITS);
-        mark(columns, words, 0, i / WORD_BITS, bit, positives[i]);
-        mark(columns, words, VARIABLES, i / WORD_BITS, bit, negatives[i]);
+        mark(columns, words, 0, i / WORD_BITS, bit, t.positive);
+        mark(columns, words, VARIABLES, i / WORD_BITS, bit, t.negative);
     }
 }
 
@@ -265,25 +266,24 @@ fn is_open(kept: &[u64], count: usize, hint: Option<usize>, t: Term, u: Term) ->
     !covers(kept, count, hint, terms::join(t, u))
 }
 
-// Finds those terms of the list b, from a place on, that join with t and whose hint fails: they are left. Answers the join of t and all
+// Finds those terms of the list, from a place on, that join with t and whose hint fails: they are left. Answers the join of t and all
 // of them.
 fn gather(
     left: &mut [u64],
     hints: &[u16],
     kept: &[u64],
     count: usize,
-    bp: &[u64],
-    bn: &[u64],
+    list: TermList,
     from: usize,
     t: Term,
 ) -> Term
     requires count_in_bounds { (2 * count ≤ length kept.now) × (length left.old ≡ max_words) }
-    requires bn_len { (length bn.now ≡ length bp.now) × (length bp.now ≤ max_capacity) }
+    requires few { length list.positives.now ≤ max_capacity }
 {
-    left[..bit_words(bp.len())].fill(0);
+    left[..bit_words(list.len())].fill(0);
     let mut all = t;
-    for k in from..bp.len() {
-        let u = lists::term_at(bp, bn, k);
+    for k in from..list.len() {
+        let u = list.at(k);
         if is_open(kept, count, hint_at(hints, k), t, u) {
             left[k / WORD_BITS] = left[k / WORD_BITS] | (1u64 << (k % WORD_BITS));
             all = terms::join(all, u);
@@ -321,7 +321,7 @@ fn spread_kept(
     cost
 }
 
-// Looks for kept terms inside the joins of t with those terms of the list b, from a place on, whose hint fails, and makes them the hints.
+// Looks for kept terms inside the joins of t with those terms of the list, from a place on, whose hint fails, and makes them the hints.
 // What it cost is answered, so that the caller goes on with the side that costs less.
 pub fn renew(
     hints: &mut [u16],
@@ -329,18 +329,16 @@ pub fn renew(
     columns: &[u64],
     kept: &[u64],
     count: usize,
-    bp: &[u64],
-    bn: &[u64],
+    list: TermList,
     from: usize,
     t: Term,
 ) -> usize
     requires count_le_max_capacity { (count ≤ max_capacity) × (2 * count ≤ length kept.now) × (length left.old ≡ max_words) }
-    requires has_columns { HasColumns (bit_words (length bp.now)) columns.now × (length bn.now ≡ length bp.now)
-        × (length bp.now ≤ max_capacity) }
+    requires has_columns { HasColumns (bit_words (length list.positives.now)) columns.now × (length list.positives.now ≤ max_capacity) }
     ensures { (result ≤ max_cost) × (length hints.new ≡ length hints.old)
         × (length left.new ≡ length left.old) }
 {
-    let words = bit_words(bp.len());
-    let all = gather(left, hints, kept, count, bp, bn, from, t);
+    let words = bit_words(list.len());
+    let all = gather(left, hints, kept, count, list, from, t);
     spread_kept(hints, left, columns, kept, count, words, all, t)
 }

@@ -18,7 +18,8 @@ use Rattle.terms.proofs.Sorted.{any-i, keep-in, keep_out, map-in, map-out}
 use Rattle.terms.proofs.Terms.{extend-IsTerm}
 use Rattle.lists.specs.Capacity.{max_capacity}
 use Rattle.lists.specs.Entries.{term_at}
-use Rattle.insertion.specs.Filled.{held, Filled}
+use Rattle.lists.specs.List.{held}
+use Rattle.insertion.specs.Filled.{Filled}
 use Rattle.insertion.specs.declared.Kept.TheVariants.{Count, Full}
 use Rattle.decisions.specs.Extended.{Extending, side_terms, ListsOne, ListsSide}
 use Rattle.settling.specs.Growth.{Grew, Overflow, Keeps, Grown}

@@ -14,7 +14,8 @@ use Rattle.terms.specs.Term.{IsTerm, terms_of}
 use Rattle.terms.specs.declared.Term.{Term}
 use Rattle.lists.specs.Capacity.{max_capacity}
 use Rattle.lists.specs.Entries.{term_at}
-use Rattle.insertion.specs.Filled.{held, Filled}
+use Rattle.lists.specs.List.{held}
+use Rattle.insertion.specs.Filled.{Filled}
 use Rattle.insertion.specs.declared.Kept.TheVariants.{Count, Full}
 use Rattle.decisions.specs.Extended.{Extending, side_terms, ListsSide}
 use Rattle.settling.specs.Growth.{Grew, Overflow, Growing, Grown}

@@ -8,7 +8,8 @@ ghost use Rattle.terms.specs.Order.{before};
 ghost use Rattle.terms.specs.Term.{terms_of};
 ghost use Rattle.lists.specs.Capacity.{max_capacity};
 ghost use Rattle.hints.specs.Scratch.{HasHalves};
-ghost use Rattle.insertion.specs.Filled.{by_sign, Filled};
+ghost use Rattle.lists.specs.List.{by_sign};
+ghost use Rattle.insertion.specs.Filled.{Filled};
 ghost use Rattle.settling.specs.Sides.{DecidedAt};
 ghost use Rattle.decisions.specs.Sizes.{short_side, middle_side};
 

@@ -3,7 +3,7 @@
 ghost use Rattle.std.specs.Prelude.{◌<◌, length};
 ghost use Rattle.terms.specs.Term.{terms_of};
 ghost use Rattle.lists.specs.Entries.{term_at};
-ghost use Rattle.insertion.specs.Filled.{by_sign};
+ghost use Rattle.lists.specs.List.{by_sign};
 ghost use Rattle.subsumption.specs.Ahead.{FoundInside};
 ghost use Rattle.settling.specs.Growth.{Grown};
 ghost use Rattle.decisions.specs.Extended.{Extending, side_terms, ListsOne, ListsSide};

@@ -22,7 +22,8 @@ use Rattle.circuits.specs.Check.{check}
 use Rattle.circuits.specs.Function.{signed_function}
 use Rattle.circuits.proofs.Accepted.{accepted-e}
 use Rattle.circuits.proofs.Largest.{no_more}
-use Rattle.insertion.specs.Filled.{by_sign, masks_of}
+use Rattle.lists.specs.List.{by_sign}
+use Rattle.insertion.specs.Filled.{masks_of}
 use Rattle.insertion.proofs.Parts.{terms-masks}
 use Rattle.listing.specs.Listing.{node_primes, listed_masks, exceeds, filled, Lent}
 use Rattle.listing.proofs.Last.{all_fit}

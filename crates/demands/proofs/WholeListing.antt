@@ -21,7 +21,8 @@ use Rattle.terms.proofs.Sorted.{keep_out, keep-in, keep-rising}
 use Rattle.exclusions.specs.Exclusions.{respects, Exclusions}
 use Rattle.exclusions.proofs.Respects.{respects-e, respects-i}
 use Rattle.circuits.specs.Function.{function, signed_function}
-use Rattle.insertion.specs.Filled.{by_sign, masks_of}
+use Rattle.lists.specs.List.{by_sign}
+use Rattle.insertion.specs.Filled.{masks_of}
 use Rattle.insertion.proofs.Parts.{terms-masks, length-masks}
 use Rattle.queries.specs.Queries.{circuit}
 use Rattle.listing.specs.Listing.{node_primes, exceeds, cleared, filled, list_table, Lent, ListOut}

@@ -4,7 +4,7 @@
 
 ghost use Rattle.std.specs.Prelude.{◌≡◌, true, not, ◌^◌, ◌<◌, ◌≤◌, length, replicate};
 ghost use Rattle.terms.specs.Term.{terms_of};
-ghost use Rattle.insertion.specs.Filled.{by_sign};
+ghost use Rattle.lists.specs.List.{by_sign};
 ghost use Rattle.exclusions.specs.Exclusions.{exclusions, distinct, proper, respects, Exclusions};
 ghost use Rattle.exclusions.specs.Partners.{Folded, Filtered};
 

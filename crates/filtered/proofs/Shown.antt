@@ -14,7 +14,8 @@ use Rattle.exclusions.specs.Partners.{respecting, Filtered}
 use Rattle.circuits.specs.Check.{check}
 use Rattle.circuits.specs.Function.{signed_function}
 use Rattle.circuits.proofs.Accepted.{accepted-e, nodes-some, nodes-le}
-use Rattle.insertion.specs.Filled.{by_sign, masks_of}
+use Rattle.lists.specs.List.{by_sign}
+use Rattle.insertion.specs.Filled.{masks_of}
 use Rattle.insertion.proofs.Parts.{terms-masks, length-masks}
 use Rattle.listing.specs.Exact.{Attempted}
 use Rattle.listing.specs.Listing.{node_primes, exceeds, cleared, filled, Lent}

@@ -10,7 +10,7 @@ ghost use Rattle.exclusions.specs.Exclusions.{exclusions, proper};
 ghost use Rattle.exclusions.specs.Partners.{Filtered};
 ghost use Rattle.circuits.specs.Check.{check};
 ghost use Rattle.circuits.specs.Function.{signed_function};
-ghost use Rattle.insertion.specs.Filled.{by_sign};
+ghost use Rattle.lists.specs.List.{by_sign};
 ghost use Rattle.listing.specs.Listing.{lent, suffices};
 ghost use Rattle.filtered.specs.Filtered.{filtered_lent, filtered_checked, filtered_table, Gives};
 ghost use Rattle.filtered.specs.Exact.{last_terms, LastHeld, FilteredExact};

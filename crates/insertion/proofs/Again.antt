@@ -9,7 +9,8 @@ use lib.Seq.{take_at, drop_at, drop-drop}
 use Rattle.std.specs.Prelude.{Option, Some}
 use Rattle.terms.specs.Term.{terms_of}
 use Rattle.terms.specs.declared.Term.{Term}
-use Rattle.insertion.specs.Filled.{held, masks_of, kept_of, Filled}
+use Rattle.lists.specs.List.{held}
+use Rattle.insertion.specs.Filled.{masks_of, kept_of, Filled}
 use Rattle.insertion.proofs.Parts.{terms-masks, length-masks, Even, kept-count}
 
 drop_more : (a b : ℕ) (x y : List ℕ) → a ≤ b → drop a x ≡ drop a y → drop b x ≡ drop b y

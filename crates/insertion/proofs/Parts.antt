@@ -15,7 +15,8 @@ use Rattle.terms.specs.Order.{before}
 use Rattle.terms.specs.Term.{mask, terms_of}
 use Rattle.terms.specs.declared.Term.{Term}
 use Rattle.lists.proofs.Parts.{length-terms}
-use Rattle.insertion.specs.Filled.{insert_at, Placed, by_sign, held, masks_of, kept_of, Filled}
+use Rattle.lists.specs.List.{by_sign, held}
+use Rattle.insertion.specs.Filled.{insert_at, Placed, masks_of, kept_of, Filled}
 use Rattle.insertion.proofs.Inserted.{length-insert_at, map-insert_at}
 
 masks-terms : (b : Bool) (ps ns : List ℕ) → length ns ≡ length ps → masks_of b (terms_of ps ns) ≡ by_sign ps ns b

@@ -19,15 +19,6 @@ abbrev pub Placed : Term → List Term → Result ℕ ℕ → Type 0
 Placed t l (Ok k) = (k < length l) × Level t (get_or l k empty) × (insert (before []) t l ≡ l)
 Placed t l (Err k) = (k ≤ length l) × (insert (before []) t l ≡ insert_at k t l)
 
--- the two slices by sign: the positive masks for true
-abbrev pub by_sign : List ℕ → List ℕ → Bool → List ℕ
-by_sign ps ns true = ps
-by_sign ps ns false = ns
-
--- the terms that the first count entries hold
-abbrev pub held : (Bool → List ℕ) → ℕ → List Term
-held s count = terms_of (take count (s true)) (take count (s false))
-
 -- the masks of sign b of the terms
 abbrev pub masks_of : Bool → List Term → List ℕ
 masks_of b l = map (λ t. mask t b) l

@@ -13,7 +13,8 @@ use Rattle.terms.specs.declared.Term.{Term}
 use Rattle.terms.proofs.Built.{with-step}
 use Rattle.lists.specs.Entries.{term_at}
 use Rattle.lists.proofs.Parts.{drop-terms, drop-end}
-use Rattle.insertion.specs.Filled.{held, Filled}
+use Rattle.lists.specs.List.{held}
+use Rattle.insertion.specs.Filled.{Filled}
 use Rattle.insertion.proofs.Again.{filled-length, filled-fits, filled-held}
 use Rattle.insertion.proofs.Parts.{Even, filled_none}
 use Rattle.joins.specs.Added.{insert_all, Added}

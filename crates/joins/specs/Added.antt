@@ -3,7 +3,8 @@ use Rattle.std.specs.Prelude.{ℕ, Bool, List, [], ◌∷◌, Option}
 use Rattle.terms.specs.Lists.{insert}
 use Rattle.terms.specs.Order.{before}
 use Rattle.terms.specs.declared.Term.{Term}
-use Rattle.insertion.specs.Filled.{held, Filled}
+use Rattle.lists.specs.List.{held}
+use Rattle.insertion.specs.Filled.{Filled}
 
 -- the terms of l inserted into acc, one after the other
 abbrev pub insert_all : List Term → List Term → List Term

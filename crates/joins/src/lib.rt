@@ -6,7 +6,7 @@ ghost use Rattle.terms.specs.Joins.{joins_with, joins};
 ghost use Rattle.terms.specs.Lists.{Rising};
 ghost use Rattle.terms.specs.Order.{before};
 ghost use Rattle.terms.specs.Term.{terms_of};
-ghost use Rattle.insertion.specs.Filled.{by_sign, held};
+ghost use Rattle.lists.specs.List.{by_sign, held};
 ghost use Rattle.joins.specs.Added.{Added};
 
 use terms::Term;

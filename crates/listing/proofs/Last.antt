@@ -13,7 +13,8 @@ use Rattle.circuits.specs.Check.{check}
 use Rattle.circuits.specs.Function.{signed_function}
 use Rattle.circuits.proofs.Accepted.{accepted-e, last-below}
 use Rattle.circuits.proofs.Largest.{no_more}
-use Rattle.insertion.specs.Filled.{by_sign, masks_of}
+use Rattle.lists.specs.List.{by_sign}
+use Rattle.insertion.specs.Filled.{masks_of}
 use Rattle.listing.specs.Listing.{node_primes, exceeds, filled, Lent}
 use Rattle.listing.proofs.Table.{Fit, masks-back, count-back}
 

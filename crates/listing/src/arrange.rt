@@ -1,6 +1,6 @@
 // The terms of every node put into the order by weights.
 ghost use Rattle.std.specs.Prelude.{◌≤◌, length};
-ghost use Rattle.insertion.specs.Filled.{by_sign};
+ghost use Rattle.lists.specs.List.{by_sign};
 ghost use Rattle.listing.specs.Exact.{small_capacity, Unarranged, Arranges};
 
 use super::{SMALL, Shape};

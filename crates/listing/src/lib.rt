@@ -7,7 +7,7 @@ ghost use Rattle.table.specs.Outcome.{accepted};
 ghost use Rattle.circuits.specs.Check.{check};
 ghost use Rattle.circuits.specs.Function.{signed_function};
 ghost use Rattle.lists.specs.Capacity.{max_capacity};
-ghost use Rattle.insertion.specs.Filled.{by_sign};
+ghost use Rattle.lists.specs.List.{by_sign};
 ghost use Rattle.nodes.specs.Part.{HasPlace};
 ghost use Rattle.weighing.specs.Weights.{fitting};
 ghost use Rattle.listing.specs.Exact.{small_capacity, Zeroed, Tried, Exact, Attempted};

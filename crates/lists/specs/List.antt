@@ -1,5 +1,5 @@
 -- The terms of a list, and the entries of a buffer.
-use Rattle.std.specs.Prelude.{ℕ, Bool, true, false, List}
+use Rattle.std.specs.Prelude.{ℕ, Bool, true, false, List, take}
 use Rattle.terms.specs.Term.{terms_of}
 use Rattle.terms.specs.declared.Term.{Term}
 use Rattle.lists.specs.declared.list.TermBuffer.{TermBuffer}
@@ -15,3 +15,7 @@ by_sign ps ns false = ns
 
 abbrev pub slots : TermBuffer → Bool → List ℕ
 slots b = by_sign b.positives.now b.negatives.now
+
+-- the terms that the first count entries hold
+abbrev pub held : (Bool → List ℕ) → ℕ → List Term
+held s count = terms_of (take count (s true)) (take count (s false))

@@ -1,5 +1,5 @@
 // Lists of terms, as two slices of one length: the positive masks, and the negative masks of the same terms.
-ghost use Rattle.std.specs.Prelude.{◌≡◌, ◌<◌, length};
+ghost use Rattle.std.specs.Prelude.{◌≡◌, ◌<◌, ◌≤◌, length};
 ghost use Rattle.lists.specs.Entries.{term_at};
 
 use terms::Term;
@@ -37,4 +37,20 @@ pub struct TermBuffer<'a> {
     pub positives: &'a mut [u64],
     pub negatives: &'a mut [u64],
     ghost same_length: { length negatives.now ≡ length positives.now },
+}
+
+impl<'a> TermBuffer<'a> {
+    ghost use Rattle.lists.specs.List.{held, slots, terms_in};
+
+    // The list in the first count entries.
+    pub fn front(&self, count: usize) -> TermList
+        requires { count ≤ length self.now.positives.now }
+        ensures terms { terms_in result ≡ held (slots self.now) count }
+        ensures size { length result.positives.now ≡ count }
+    {
+        TermList {
+            positives: &self.positives[..count],
+            negatives: &self.negatives[..count],
+        }
+    }
 }

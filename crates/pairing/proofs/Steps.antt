@@ -14,7 +14,7 @@ use Rattle.terms.specs.Term.{terms_of}
 use Rattle.terms.specs.declared.Term.{Term}
 use Rattle.lists.specs.Capacity.{max_capacity}
 use Rattle.lists.specs.Entries.{term_at}
-use Rattle.insertion.specs.Filled.{held}
+use Rattle.lists.specs.List.{held}
 use Rattle.settling.specs.Growth.{Grew, Overflow, Growing, Grown}
 use Rattle.settling.specs.Sides.{SidesAt, least_joins, Settled, SettledFrom, AllSettled, KeptIn, Stepped}
 use Rattle.pairing.specs.Pairs.{Paired}

@@ -3,7 +3,7 @@ use Rattle.std.specs.Prelude.{ℕ, ◌*◌, ◌≤◌, ◌<◌, Bool, List, leng
 use Rattle.terms.specs.Term.{terms_of}
 use Rattle.terms.specs.declared.Term.{Term}
 use Rattle.lists.specs.Capacity.{max_capacity}
-use Rattle.insertion.specs.Filled.{held}
+use Rattle.lists.specs.List.{held}
 use Rattle.settling.specs.Growth.{Grew, Overflow, Growing}
 use Rattle.settling.specs.Sides.{least_joins, KeptIn, Stepped}
 use Rattle.pairing.specs.declared.pairs.Turn.{Turn}

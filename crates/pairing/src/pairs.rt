@@ -3,7 +3,7 @@ ghost use Rattle.std.specs.Prelude.{◌≡◌, ◌+◌, ◌*◌, ◌≤◌, ◌<
 ghost use Rattle.terms.specs.Term.{terms_of};
 ghost use Rattle.lists.specs.Capacity.{max_capacity};
 ghost use Rattle.hints.specs.Scratch.{HasHalves, max_cost};
-ghost use Rattle.insertion.specs.Filled.{by_sign};
+ghost use Rattle.lists.specs.List.{by_sign};
 ghost use Rattle.settling.specs.Growth.{Growing, Grown};
 ghost use Rattle.pairing.specs.Pairs.{Paired, Turns};
 ghost use Rattle.settling.specs.Sides.{least_joins, AllSettled};

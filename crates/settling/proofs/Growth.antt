@@ -15,7 +15,8 @@ use Rattle.terms.specs.declared.Term.{Term}
 use Rattle.terms.proofs.Embeddings.{rising-length}
 use Rattle.terms.proofs.Listed.{before-total, inserted_rising, sorted-in, sorted-only}
 use Rattle.terms.proofs.Sorted.{insert-out, insert-in}
-use Rattle.insertion.specs.Filled.{held, Filled}
+use Rattle.lists.specs.List.{held}
+use Rattle.insertion.specs.Filled.{Filled}
 use Rattle.insertion.proofs.Again.{filled-length, filled-fits, filled-held, filled-then}
 use Rattle.insertion.proofs.Parts.{Even, kept_full, filled_none, filled-full}
 use Rattle.settling.specs.Growth.{Front, Grew, Overflow}

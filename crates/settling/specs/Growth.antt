@@ -6,7 +6,8 @@ use Rattle.terms.specs.Order.{before}
 use Rattle.terms.specs.Term.{IsTerm, terms_of}
 use Rattle.terms.specs.declared.Term.{Term}
 use Rattle.lists.specs.Capacity.{max_capacity}
-use Rattle.insertion.specs.Filled.{held, Filled}
+use Rattle.lists.specs.List.{held}
+use Rattle.insertion.specs.Filled.{Filled}
 use Rattle.hints.specs.Kept.{kept_at}
 use Rattle.settling.specs.Sides.{SidesAt, least_joins, KeptIn}
 use Rattle.settling.specs.declared.counts.Counts.{Counts}

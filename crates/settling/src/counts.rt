@@ -2,7 +2,7 @@
 ghost use Rattle.std.specs.Prelude.{◌≡◌, [], ◌*◌, ◌≤◌, length};
 ghost use Rattle.terms.specs.Lists.{Rising};
 ghost use Rattle.terms.specs.Order.{before};
-ghost use Rattle.insertion.specs.Filled.{by_sign, held};
+ghost use Rattle.lists.specs.List.{by_sign, held};
 ghost use Rattle.settling.specs.Growth.{Keeps};
 
 use terms::Term;

@@ -6,7 +6,7 @@ ghost use Rattle.terms.specs.Term.{conflict, terms_of};
 ghost use Rattle.lists.specs.Capacity.{max_capacity};
 ghost use Rattle.lists.specs.Entries.{term_at};
 ghost use Rattle.hints.specs.Scratch.{max_words, bit_words, HasColumns};
-ghost use Rattle.insertion.specs.Filled.{by_sign, held};
+ghost use Rattle.lists.specs.List.{by_sign, held};
 ghost use Rattle.settling.specs.Growth.{Growing, Grown};
 ghost use Rattle.settling.specs.Sides.{least_joins, Covered, Settled, SettledFrom};
 ghost use Rattle.settling.specs.Tries.{Tries};

@@ -13,7 +13,8 @@ use Rattle.weighing.specs.Weights.{fitting}
 use Rattle.circuits.specs.Check.{check}
 use Rattle.circuits.specs.Function.{signed_function}
 use Rattle.queries.specs.Queries.{circuit}
-use Rattle.insertion.specs.Filled.{by_sign, masks_of}
+use Rattle.lists.specs.List.{by_sign}
+use Rattle.insertion.specs.Filled.{masks_of}
 use Rattle.listing.specs.Listing.{suffices, exceeds, filled, list_table, ListResult, Lent, ListOut}
 use Rattle.listing.specs.declared.Listing.TheVariants.{Listed}
 use Rattle.listing.proofs.Answers.{out-is}

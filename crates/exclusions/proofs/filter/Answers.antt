@@ -8,7 +8,7 @@ use Rattle.masks.proofs.Tests.{was-true, was-false, either}
 use Rattle.terms.specs.Term.{mask, terms_of}
 use Rattle.terms.specs.declared.Term.{Term}
 use Rattle.lists.proofs.Parts.{drop-terms, drop-end}
-use Rattle.insertion.specs.Filled.{by_sign}
+use Rattle.lists.specs.List.{by_sign}
 use Rattle.exclusions.specs.Exclusions.{respects, Exclusions}
 use Rattle.exclusions.specs.Partners.{Folded}
 use Rattle.exclusions.proofs.Filtering.{filtering-start, filtering-end, filtering-skip, filtering-keep}

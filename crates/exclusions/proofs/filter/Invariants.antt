@@ -2,7 +2,7 @@
 use Prim.Native.Nat.{◌≤◌}
 use lib.ListN.{length, drop}
 use Rattle.terms.specs.Term.{terms_of}
-use Rattle.insertion.specs.Filled.{by_sign}
+use Rattle.lists.specs.List.{by_sign}
 use Rattle.exclusions.specs.Exclusions.{Exclusions}
 use Rattle.exclusions.specs.Partners.{Folded}
 use Rattle.exclusions.proofs.Filtering.{Filtering}

@@ -9,7 +9,7 @@ use lib.Seq.{length-take-le}
 use Rattle.exclusions.specs.Exclusions.{exclusions}
 use Rattle.circuits.specs.Function.{signed_function}
 use Rattle.circuits.proofs.Accepted.{accepted-e, nodes-le}
-use Rattle.insertion.specs.Filled.{by_sign}
+use Rattle.lists.specs.List.{by_sign}
 use Rattle.listing.specs.Listing.{lent, suffices}
 use Rattle.listing.specs.declared.Shape.{Shape}
 use Rattle.listing.proofs.Bounds.{two-fit, two-fit-e}

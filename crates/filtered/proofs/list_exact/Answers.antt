@@ -6,7 +6,7 @@ use native.Mathlib.Omega.{arith}
 use lib.ListN.{length, replicate}
 use Rattle.masks.proofs.Tests.{along}
 use Rattle.circuits.proofs.Accepted.{accepted-e, variables-le}
-use Rattle.insertion.specs.Filled.{by_sign}
+use Rattle.lists.specs.List.{by_sign}
 use Rattle.exclusions.specs.Exclusions.{exclusions}
 use Rattle.listing.specs.Listing.{lent, suffices, Lent}
 use Rattle.listing.proofs.Answers.{zeros_of}

@@ -6,7 +6,7 @@ use mathlib.Core.List.{List, [], ◌∷◌}
 use Rattle.std.specs.Prelude.{Some}
 use Rattle.terms.specs.declared.Term.{Term}
 use Rattle.terms.proofs.Built.{with-one}
-use Rattle.insertion.specs.Filled.{by_sign}
+use Rattle.lists.specs.List.{by_sign}
 use Rattle.insertion.proofs.Parts.{even, filled_none}
 use Rattle.joins.specs.Added.{Added}
 use Rattle.joins.proofs.add_join.Goals as goal

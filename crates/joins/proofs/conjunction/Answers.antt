@@ -7,7 +7,7 @@ use lib.ListN.{length}
 use Rattle.std.specs.Prelude.{Some, None}
 use Rattle.terms.specs.Term.{terms_of}
 use Rattle.terms.specs.declared.Term.{Term}
-use Rattle.insertion.specs.Filled.{by_sign}
+use Rattle.lists.specs.List.{by_sign}
 use Rattle.insertion.proofs.Parts.{Even, even}
 use Rattle.joins.specs.Added.{Added}
 use Rattle.joins.proofs.Turns.{all_made, turn-start, turn-length, turn-fits, turn_end, turn-full, turn-next, joining_all, Steps}

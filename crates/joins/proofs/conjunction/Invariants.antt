@@ -1,7 +1,7 @@
 -- `joins::conjunction` meets its contract. The loop's invariant: the slices hold count terms in their front, and inserting what is left
 -- makes the whole list.
 use Rattle.terms.specs.Term.{terms_of}
-use Rattle.insertion.specs.Filled.{by_sign}
+use Rattle.lists.specs.List.{by_sign}
 use Rattle.joins.proofs.Turns.{all_made, joining_all, Steps, Turn}
 use Rattle.joins.proofs.conjunction.Given as goal
 

@@ -1,6 +1,6 @@
 -- `joins::join_each` meets its contract. The loop's invariant: the slices hold count terms in their front, and inserting what is left
 -- makes the whole list.
-use Rattle.insertion.specs.Filled.{by_sign}
+use Rattle.lists.specs.List.{by_sign}
 use Rattle.joins.proofs.Turns.{all_made, joining_one, Steps, Turn}
 use Rattle.joins.proofs.join_each.Given as goal
 

@@ -13,7 +13,7 @@ use Rattle.terms.specs.declared.Term.{Term}
 use Rattle.circuits.specs.Function.{signed_function}
 use Rattle.circuits.proofs.Accepted.{accepted-e, nodes-some, nodes-le, words-enough, Accepted}
 use Rattle.circuits.proofs.Largest.{no_more}
-use Rattle.insertion.specs.Filled.{by_sign}
+use Rattle.lists.specs.List.{by_sign}
 use Rattle.insertion.specs.declared.Kept.{Kept}
 use Rattle.insertion.specs.declared.Kept.TheVariants.{Count, Full}
 use Rattle.insertion.proofs.Parts.{kept-count, kept_full}

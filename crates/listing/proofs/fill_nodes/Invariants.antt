@@ -5,7 +5,7 @@ use mathlib.Core.Path.{◌≡◌}
 use mathlib.Core.List.{[]}
 use lib.ListN.{length}
 use Rattle.circuits.specs.Function.{signed_function}
-use Rattle.insertion.specs.Filled.{by_sign}
+use Rattle.lists.specs.List.{by_sign}
 use Rattle.listing.proofs.Table.{State}
 use Rattle.listing.proofs.fill_nodes.Given as goal
 

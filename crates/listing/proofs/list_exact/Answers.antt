@@ -6,7 +6,7 @@ use mathlib.Core.List.{List}
 use lib.ListN.{length}
 use Rattle.circuits.specs.Function.{signed_function}
 use Rattle.circuits.proofs.Accepted.{accepted-e, variables-le, nodes-le, Accepted}
-use Rattle.insertion.specs.Filled.{by_sign}
+use Rattle.lists.specs.List.{by_sign}
 use Rattle.listing.proofs.Answers.{exact-all, exact_none, zeros_of}
 use lib.ListN.{replicate}
 use Rattle.listing.proofs.list_exact.Goals as goal

@@ -9,7 +9,7 @@ use Rattle.table.specs.Node.{max_nodes}
 use Rattle.circuits.specs.Function.{signed_function}
 use Rattle.circuits.proofs.Accepted.{accepted-e, nodes-le}
 use Rattle.lists.specs.Capacity.{max_capacity}
-use Rattle.insertion.specs.Filled.{by_sign}
+use Rattle.lists.specs.List.{by_sign}
 use Rattle.listing.specs.Listing.{lent, Lent}
 use Rattle.listing.proofs.Answers.{attempted}
 use Rattle.listing.proofs.Bounds.{enough, Enough}

@@ -8,7 +8,8 @@ use Rattle.terms.specs.Lists.{sort}
 use Rattle.terms.specs.Order.{before}
 use Rattle.terms.specs.Term.{terms_of}
 use Rattle.terms.specs.declared.Term.{Term}
-use Rattle.insertion.specs.Filled.{by_sign, Filled}
+use Rattle.lists.specs.List.{by_sign}
+use Rattle.insertion.specs.Filled.{Filled}
 use Rattle.insertion.specs.declared.Kept.{Kept}
 use Rattle.nodes.proofs.Both.{both-made, in_order}
 use Rattle.nodes.proofs.conjoin.Goals as goal

@@ -4,7 +4,8 @@ use mathlib.Core.Path.{sym, subst}
 use mathlib.Core.Bool.{Bool, cond}
 use mathlib.Core.List.{List, [], ◌∷◌}
 use Rattle.terms.specs.Term.{empty}
-use Rattle.insertion.specs.Filled.{by_sign, Filled}
+use Rattle.lists.specs.List.{by_sign}
+use Rattle.insertion.specs.Filled.{Filled}
 use Rattle.insertion.specs.declared.Kept.TheVariants.{Count}
 use Rattle.insertion.proofs.Parts.{even, filled_none}
 use Rattle.nodes.proofs.constant.Goals as goal

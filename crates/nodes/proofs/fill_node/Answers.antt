@@ -4,7 +4,7 @@ use mathlib.Core.Bool.{Bool, true, false}
 use mathlib.Core.List.{List}
 use native.Mathlib.Omega.{arith}
 use lib.ListN.{length}
-use Rattle.insertion.specs.Filled.{by_sign}
+use Rattle.lists.specs.List.{by_sign}
 use Rattle.insertion.specs.declared.Kept.TheVariants.{Full}
 use Rattle.nodes.specs.Part.{PartFilled, HasPlace}
 use Rattle.nodes.proofs.Making.{last-below, making-start, making-long, making-few, making-end, Making}

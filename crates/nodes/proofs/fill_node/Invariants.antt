@@ -1,7 +1,7 @@
 -- `nodes::fill_node` meets its contract. The invariant: what is made from place k on stands where `high` says.
 use mathlib.Core.Path.{◌≡◌}
 use lib.ListN.{length}
-use Rattle.insertion.specs.Filled.{by_sign}
+use Rattle.lists.specs.List.{by_sign}
 use Rattle.nodes.proofs.Making.{Making}
 use Rattle.nodes.proofs.fill_node.Given as goal
 

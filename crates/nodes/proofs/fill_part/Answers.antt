@@ -8,7 +8,8 @@ use lib.ListN.{length, take, drop}
 use lib.Seq.{length-take-le}
 use Rattle.terms.specs.Term.{terms_of}
 use Rattle.terms.specs.declared.Term.{Term}
-use Rattle.insertion.specs.Filled.{by_sign, Filled}
+use Rattle.lists.specs.List.{by_sign}
+use Rattle.insertion.specs.Filled.{Filled}
 use Rattle.insertion.proofs.Parts.{Even, even}
 use Rattle.nodes.specs.Part.{gate_made, terms_from}
 use Rattle.nodes.proofs.Parts.{length_part, part_filled, given-there}

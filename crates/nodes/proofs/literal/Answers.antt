@@ -2,7 +2,8 @@
 use mathlib.Core.Path.{subst}
 use mathlib.Core.List.{[], ◌∷◌}
 use Rattle.terms.specs.declared.Term.{Term}
-use Rattle.insertion.specs.Filled.{by_sign, Filled}
+use Rattle.lists.specs.List.{by_sign}
+use Rattle.insertion.specs.Filled.{Filled}
 use Rattle.nodes.proofs.literal.Goals as goal
 
 pub returns : goal.returns

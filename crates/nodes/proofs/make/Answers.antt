@@ -6,7 +6,8 @@ use mathlib.Core.List.{List, [], ◌∷◌}
 use Rattle.table.specs.declared.gates.Gate.{Gate}
 use Rattle.table.specs.declared.gates.Gate.TheVariants.{Constant, Literal, Decision, Conjunction, Unknown}
 use Rattle.terms.specs.Term.{empty, extend, terms_of}
-use Rattle.insertion.specs.Filled.{by_sign, Filled}
+use Rattle.lists.specs.List.{by_sign}
+use Rattle.insertion.specs.Filled.{Filled}
 use Rattle.insertion.specs.declared.Kept.{Kept}
 use Rattle.insertion.specs.declared.Kept.TheVariants.{Count}
 use Rattle.insertion.proofs.Parts.{even, filled_none}

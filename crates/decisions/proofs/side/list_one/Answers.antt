@@ -8,7 +8,8 @@ use Rattle.terms.specs.Order.{before}
 use Rattle.terms.specs.Term.{extend}
 use Rattle.terms.specs.declared.Term.{Term}
 use Rattle.lists.specs.Entries.{term_at}
-use Rattle.insertion.specs.Filled.{by_sign, held, Filled}
+use Rattle.lists.specs.List.{by_sign, held}
+use Rattle.insertion.specs.Filled.{Filled}
 use Rattle.subsumption.specs.Ahead.{FoundInside}
 use Rattle.subsumption.specs.declared.Found.{Found}
 use Rattle.settling.specs.Growth.{Keeps}

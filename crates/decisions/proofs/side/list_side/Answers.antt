@@ -4,7 +4,7 @@ use native.Mathlib.Omega.{arith}
 use Rattle.terms.specs.Term.{IsTerm, terms_of}
 use Rattle.terms.specs.declared.Term.{Term}
 use Rattle.lists.specs.Entries.{term_at}
-use Rattle.insertion.specs.Filled.{by_sign}
+use Rattle.lists.specs.List.{by_sign}
 use Rattle.subsumption.specs.Ahead.{FoundInside}
 use Rattle.decisions.specs.Extended.{side_terms, ListsOne}
 use Rattle.settling.specs.Growth.{Grown}

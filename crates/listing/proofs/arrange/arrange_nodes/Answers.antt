@@ -12,7 +12,8 @@ use Rattle.lists.specs.Capacity.{max_capacity}
 use Rattle.terms.specs.Lists.{sort}
 use Rattle.terms.specs.Order.{before}
 use Rattle.terms.specs.Term.{terms_of}
-use Rattle.insertion.specs.Filled.{by_sign, masks_of}
+use Rattle.lists.specs.List.{by_sign}
+use Rattle.insertion.specs.Filled.{masks_of}
 use Rattle.weighing.specs.Weights.{Bounded}
 use Rattle.weighing.proofs.Sums.{summed-weight}
 use Rattle.weighing.proofs.Weights.{weight-most, fitting-length, fitting-most}

@@ -6,7 +6,7 @@ use mathlib.Core.Path.{◌≡◌}
 use mathlib.Core.Bool.{Bool}
 use mathlib.Core.List.{[]}
 use lib.ListN.{length}
-use Rattle.insertion.specs.Filled.{by_sign}
+use Rattle.lists.specs.List.{by_sign}
 use Rattle.weighing.specs.Sums.{Sums}
 use Rattle.listing.specs.Exact.{Holds}
 use Rattle.listing.proofs.Arranged.{ArrangedTo}

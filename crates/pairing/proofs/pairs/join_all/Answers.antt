@@ -2,7 +2,7 @@ use mathlib.Core.Path.{refl, subst, ◌∙◌}
 use mathlib.Core.Bool.{true, false}
 use mathlib.Core.Logic.{inl, inr}
 use native.Mathlib.Omega.{arith}
-use Rattle.insertion.specs.Filled.{by_sign}
+use Rattle.lists.specs.List.{by_sign}
 use Rattle.pairing.specs.Pairs.{Turns}
 use Rattle.pairing.proofs.Steps.{pairs_start, pairs-length, pairs-left, pairs_next, pairs-over, pairs_end}
 use Rattle.pairing.proofs.pairs.join_all.Goals as goal

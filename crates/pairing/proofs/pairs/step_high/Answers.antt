@@ -7,7 +7,7 @@ use lib.ListN.{length-take}
 use Rattle.terms.specs.Term.{terms_of}
 use Rattle.terms.specs.declared.Term.{Term}
 use Rattle.lists.specs.Entries.{term_at}
-use Rattle.insertion.specs.Filled.{by_sign}
+use Rattle.lists.specs.List.{by_sign}
 use Rattle.settling.specs.Growth.{Grown}
 use Rattle.settling.specs.Sides.{least_joins, SettledFrom}
 use Rattle.settling.proofs.Grows.{recounted}

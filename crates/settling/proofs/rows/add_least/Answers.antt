@@ -2,7 +2,7 @@
 use mathlib.Core.List.{List}
 use Rattle.terms.specs.Term.{terms_of}
 use Rattle.terms.specs.declared.Term.{Term}
-use Rattle.insertion.specs.Filled.{by_sign}
+use Rattle.lists.specs.List.{by_sign}
 use Rattle.settling.specs.Sides.{least_joins, Covered}
 use Rattle.settling.proofs.Grows.{kept-grown}
 use Rattle.settling.proofs.rows.add_least.Goals as goal

@@ -1,6 +1,6 @@
 -- `settling::rows::join_row` meets its contract. The invariant: the pairs of the row up to j are settled.
 use Rattle.lists.specs.Entries.{term_at}
-use Rattle.insertion.specs.Filled.{by_sign}
+use Rattle.lists.specs.List.{by_sign}
 use Rattle.settling.proofs.Grows.{SoFar}
 use Rattle.settling.proofs.rows.join_row.Given as goal
 

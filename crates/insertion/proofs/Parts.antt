@@ -15,7 +15,8 @@ use Rattle.terms.specs.Order.{before}
 use Rattle.terms.specs.Term.{mask, terms_of}
 use Rattle.terms.specs.declared.Term.{Term}
 use Rattle.lists.proofs.Parts.{length-terms}
-use Rattle.lists.specs.List.{by_sign, held}
+use Rattle.lists.specs.List.{by_sign, held, slots}
+use Rattle.lists.specs.declared.list.TermBuffer.{TermBuffer}
 use Rattle.insertion.specs.Filled.{insert_at, Placed, masks_of, kept_of, Filled}
 use Rattle.insertion.proofs.Inserted.{length-insert_at, map-insert_at}
 
@@ -42,6 +43,9 @@ Even s = (b : Bool) → length (s b) ≡ length (s true)
 pub even : (ps ns : List ℕ) → length ns ≡ length ps → Even (by_sign ps ns)
 even ps ns e true = refl
 even ps ns e false = e
+
+pub even-slots : (b : TermBuffer) → Even (slots b)
+even-slots b = even b.positives.now b.negatives.now b.same_length
 
 module _ (s : Bool → List ℕ) (ev : Even s) (count : ℕ) (h : count ≤ length (s true)) where
   part : (b : Bool) → length (take count (s b)) ≡ count

@@ -6,24 +6,24 @@ use mathlib.Core.List.{List, [], ◌∷◌}
 use Rattle.std.specs.Prelude.{Some}
 use Rattle.terms.specs.declared.Term.{Term}
 use Rattle.terms.proofs.Built.{with-one}
-use Rattle.lists.specs.List.{by_sign}
-use Rattle.insertion.proofs.Parts.{even, filled_none}
+use Rattle.lists.specs.List.{slots}
+use Rattle.insertion.proofs.Parts.{even-slots, filled_none}
 use Rattle.joins.specs.Added.{Added}
 use Rattle.joins.proofs.add_join.Goals as goal
 
 pub returns-then-conflict : goal.returns-then-conflict
 returns-then-conflict c =
     let x = c.args in
-    subst (λ (l : List Term). Added l (by_sign x.positives.now x.negatives.now) x.count (by_sign x.positives.now x.negatives.now)
+    subst (λ (l : List Term). Added l (slots x.list.now) x.count (slots x.list.now)
     (Some x.count))
     (sym (with-one x.t x.u true (sym c.conflict.ensures ∙ c.if-conflict.true)))
-    (filled_none (by_sign x.positives.now x.negatives.now) (even x.positives.now x.negatives.now c.requires.1) x.count c.requires.0)
+    (filled_none (slots x.list.now) (even-slots x.list.now) x.count c.requires.0)
 
 pub returns : goal.returns
 returns c =
     let x = c.args in
-    let s' : Bool → List ℕ = by_sign c.insert.new.positives c.insert.new.negatives in
-    subst (λ (l : List Term). Added l (by_sign x.positives.now x.negatives.now) x.count s' c.insert.result)
+    let s' : Bool → List ℕ = slots c.insert.new.list in
+    subst (λ (l : List Term). Added l (slots x.list.now) x.count s' c.insert.result)
     (sym (with-one x.t x.u false (sym c.conflict.ensures ∙ c.if-conflict.false)))
-    (subst (λ (t : Term). Added (t ∷ []) (by_sign x.positives.now x.negatives.now) x.count s' c.insert.result) c.join.ensures
+    (subst (λ (t : Term). Added (t ∷ []) (slots x.list.now) x.count s' c.insert.result) c.join.ensures
     c.insert.ensures)

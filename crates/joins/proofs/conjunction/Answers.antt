@@ -1,14 +1,14 @@
 use Prim.Native.Nat.{ℕ, zero-le}
-use mathlib.Core.Path.{◌≡◌, sym, subst, ◌∙◌}
-use mathlib.Core.Bool.{Bool, true, false}
+use mathlib.Core.Path.{◌≡◌, subst}
+use mathlib.Core.Bool.{Bool}
 use mathlib.Core.List.{List}
 use native.Mathlib.Omega.{arith}
 use lib.ListN.{length}
 use Rattle.std.specs.Prelude.{Some, None}
-use Rattle.terms.specs.Term.{terms_of}
+
 use Rattle.terms.specs.declared.Term.{Term}
-use Rattle.lists.specs.List.{by_sign}
-use Rattle.insertion.proofs.Parts.{Even, even}
+use Rattle.lists.specs.List.{slots, terms_in}
+use Rattle.insertion.proofs.Parts.{Even, even-slots}
 use Rattle.joins.specs.Added.{Added}
 use Rattle.joins.proofs.Turns.{all_made, turn-start, turn-length, turn-fits, turn_end, turn-full, turn-next, joining_all, Steps}
 use Rattle.joins.proofs.conjunction.Goals as goal
@@ -17,66 +17,62 @@ use Rattle.joins.proofs.conjunction.Goals.{At-loop-k}
 -- a turn: what the slices held at first, what they hold, and all that they are to hold
 module _ (c : At-loop-k) where
   abbrev steps : Steps
-  steps = joining_all (terms_of c.args.ap.now c.args.an.now)
+  steps = joining_all (terms_in c.args.a)
 
   abbrev first : Bool → List ℕ
-  first = by_sign c.args.positives.now c.args.negatives.now
+  first = slots c.args.list.now
 
   abbrev now : Bool → List ℕ
-  now = by_sign c.loop-k.positives c.loop-k.negatives
+  now = slots c.loop-k.list
 
   abbrev whole : List Term
-  whole = all_made steps c.args.bp.now c.args.bn.now first 0
+  whole = all_made steps c.args.b.positives.now c.args.b.negatives.now first 0
 
   evens : Even first
-  evens = even c.args.positives.now c.args.negatives.now c.requires.negatives_len
+  evens = even-slots c.args.list.now
 
   sizes : (b : Bool) → length (now b) ≡ length (first b)
   sizes =
-      turn-length steps c.args.bp.now c.args.bn.now c.requires.an_len.1 whole first now evens c.loop-k.count c.loop-k.k c.loop-k.invariant
+      turn-length steps c.args.b.positives.now c.args.b.negatives.now c.args.b.same_length whole first now evens c.loop-k.count c.loop-k.k c.loop-k.invariant
 
 pub loop-k-init : goal.loop-k-init
 loop-k-init c =
     let x = c.args in
-    turn-start (joining_all (terms_of x.ap.now x.an.now)) x.bp.now x.bn.now (by_sign x.positives.now x.negatives.now)
-    (even x.positives.now x.negatives.now c.requires.negatives_len) 0 zero-le tt
+    turn-start (joining_all (terms_in x.a)) x.b.positives.now x.b.negatives.now (slots x.list.now)
+    (even-slots x.list.now) 0 zero-le tt
 
 pub join_each-requires : goal.join_each-requires
 join_each-requires c =
-    let l = (goal.at.join_each-requires c).At-loop-k in record {
-      start_in_bounds = (
-        turn-fits (steps l) c.args.bp.now c.args.bn.now c.requires.an_len.1 (whole l) (first l) (now l) (evens l) c.loop-k.count
-            c.loop-k.k c.loop-k.invariant,
-        sizes l false ∙ evens l false ∙ sym (sizes l true),
-        c.loop-k.invariant.rising,
-      );
-      ln_len = c.requires.an_len.0;
-    }
+    let l = (goal.at.join_each-requires c).At-loop-k in (
+      turn-fits (steps l) c.args.b.positives.now c.args.b.negatives.now c.args.b.same_length (whole l) (first l) (now l) (evens l) c.loop-k.count
+          c.loop-k.k c.loop-k.invariant,
+      c.loop-k.invariant.rising,
+    )
 
 pub loop-k-preserved : goal.loop-k-preserved
 loop-k-preserved c =
     let l = (goal.at.loop-k-preserved c).At-loop-k in
     let x = c.args in
-    let then : Bool → List ℕ = by_sign c.join_each.new.positives c.join_each.new.negatives in
-    turn-next (steps l) x.bp.now x.bn.now c.requires.an_len.1 (whole l) (first l) (now l) (evens l) c.loop-k.count c.loop-k.k
+    let then : Bool → List ℕ = slots c.join_each.new.list in
+    turn-next (steps l) x.b.positives.now x.b.negatives.now c.args.b.same_length (whole l) (first l) (now l) (evens l) c.loop-k.count c.loop-k.k
     c.loop-k.invariant
-    c.loop-k-test.true then c.in_ok-count.count
-    (subst (λ (t : Term). Added ((steps l).one t) (now l) c.loop-k.count then (Some c.in_ok-count.count)) c.term_at-t.ensures
+    (omega (arith, c.loop-k-test.true)) then c.in_ok-count.count
+    (subst (λ (t : Term). Added ((steps l).one t) (now l) c.loop-k.count then (Some c.in_ok-count.count)) c.at.ensures
     c.in_ok-count.ensures)
 
 pub returns-in_err-count : goal.returns-in_err-count
 returns-in_err-count c =
     let l = (goal.at.returns-in_err-count c).At-loop-k in
     let x = c.args in
-    let then : Bool → List ℕ = by_sign c.join_each.new.positives c.join_each.new.negatives in
+    let then : Bool → List ℕ = slots c.join_each.new.list in
     rw c.from_residual.ensures
-    (turn-full (steps l) x.bp.now x.bn.now c.requires.an_len.1 (whole l) (first l) (now l) (evens l) c.loop-k.count c.loop-k.k
+    (turn-full (steps l) x.b.positives.now x.b.negatives.now c.args.b.same_length (whole l) (first l) (now l) (evens l) c.loop-k.count c.loop-k.k
     c.loop-k.invariant
-    c.loop-k-test.true then then
-    (subst (λ (t : Term). Added ((steps l).one t) (now l) c.loop-k.count then None) c.term_at-t.ensures c.in_err-count.ensures))
+    (omega (arith, c.loop-k-test.true)) then then
+    (subst (λ (t : Term). Added ((steps l).one t) (now l) c.loop-k.count then None) c.at.ensures c.in_err-count.ensures))
 
 pub returns : goal.returns
 returns c =
     let l = (goal.at.returns c).At-loop-k in
-    turn_end (steps l) c.args.bp.now c.args.bn.now c.requires.an_len.1 (whole l) (first l) (now l) (evens l) c.loop-k.count c.loop-k.k
+    turn_end (steps l) c.args.b.positives.now c.args.b.negatives.now c.args.b.same_length (whole l) (first l) (now l) (evens l) c.loop-k.count c.loop-k.k
     c.loop-k.invariant (omega arith)

@@ -1,12 +1,12 @@
 -- `joins::conjunction` meets its contract. The loop's invariant: the slices hold count terms in their front, and inserting what is left
 -- makes the whole list.
-use Rattle.terms.specs.Term.{terms_of}
-use Rattle.lists.specs.List.{by_sign}
+
+use Rattle.lists.specs.List.{slots, terms_in}
 use Rattle.joins.proofs.Turns.{all_made, joining_all, Steps, Turn}
 use Rattle.joins.proofs.conjunction.Given as goal
 
 abbrev pub invariant-loop-k : goal.invariant-loop-k
 invariant-loop-k l =
-    let m : Steps = joining_all (terms_of l.ap l.an) in
-    let first = by_sign l.initial.positives l.initial.negatives in
-    Turn m l.bp l.bn (all_made m l.bp l.bn first 0) first (by_sign l.positives l.negatives) l.count l.k
+    let m : Steps = joining_all (terms_in l.a) in
+    let first = slots l.initial.list in
+    Turn m l.b.positives.now l.b.negatives.now (all_made m l.b.positives.now l.b.negatives.now first 0) first (slots l.list) l.count l.k

@@ -1,13 +1,13 @@
 use Prim.Native.Nat.{ℕ}
-use mathlib.Core.Path.{◌≡◌, sym, subst, ◌∙◌}
-use mathlib.Core.Bool.{Bool, true, false}
+use mathlib.Core.Path.{◌≡◌, subst}
+use mathlib.Core.Bool.{Bool}
 use mathlib.Core.List.{List}
 use native.Mathlib.Omega.{arith}
 use lib.ListN.{length}
 use Rattle.std.specs.Prelude.{Some, None}
 use Rattle.terms.specs.declared.Term.{Term}
-use Rattle.lists.specs.List.{by_sign}
-use Rattle.insertion.proofs.Parts.{Even, even}
+use Rattle.lists.specs.List.{slots}
+use Rattle.insertion.proofs.Parts.{Even, even-slots}
 use Rattle.joins.specs.Added.{Added}
 use Rattle.joins.proofs.Turns.{all_made, turn-start, turn-length, turn-fits, turn_end, turn-full, turn-next, joining_one, Steps}
 use Rattle.joins.proofs.join_each.Goals as goal
@@ -19,33 +19,32 @@ module _ (c : At-loop-k) where
   steps = joining_one c.args.t
 
   abbrev first : Bool → List ℕ
-  first = by_sign c.args.positives.now c.args.negatives.now
+  first = slots c.args.list.now
 
   abbrev now : Bool → List ℕ
-  now = by_sign c.loop-k.positives c.loop-k.negatives
+  now = slots c.loop-k.list
 
   abbrev whole : List Term
-  whole = all_made steps c.args.lp.now c.args.ln.now first c.args.start
+  whole = all_made steps c.args.others.positives.now c.args.others.negatives.now first c.args.start
 
   evens : Even first
-  evens = even c.args.positives.now c.args.negatives.now c.requires.start_in_bounds.1
+  evens = even-slots c.args.list.now
 
   sizes : (b : Bool) → length (now b) ≡ length (first b)
   sizes =
-      turn-length steps c.args.lp.now c.args.ln.now c.requires.ln_len whole first now evens c.loop-k.count c.loop-k.k c.loop-k.invariant
+      turn-length steps c.args.others.positives.now c.args.others.negatives.now c.args.others.same_length whole first now evens c.loop-k.count c.loop-k.k c.loop-k.invariant
 
 pub loop-k-init : goal.loop-k-init
 loop-k-init c =
     let x = c.args in
-    turn-start (joining_one x.t) x.lp.now x.ln.now (by_sign x.positives.now x.negatives.now)
-    (even x.positives.now x.negatives.now c.requires.start_in_bounds.1) x.start c.requires.start_in_bounds.0 c.requires.start_in_bounds.2
+    turn-start (joining_one x.t) x.others.positives.now x.others.negatives.now (slots x.list.now)
+    (even-slots x.list.now) x.start c.requires.0 c.requires.1
 
 pub add_join-requires : goal.add_join-requires
 add_join-requires c =
     let l = (goal.at.add_join-requires c).At-loop-k in (
-      turn-fits (steps l) c.args.lp.now c.args.ln.now c.requires.ln_len (whole l) (first l) (now l) (evens l) c.loop-k.count
+      turn-fits (steps l) c.args.others.positives.now c.args.others.negatives.now c.args.others.same_length (whole l) (first l) (now l) (evens l) c.loop-k.count
           c.loop-k.k c.loop-k.invariant,
-      sizes l false ∙ evens l false ∙ sym (sizes l true),
       c.loop-k.invariant.rising,
     )
 
@@ -53,26 +52,26 @@ pub loop-k-preserved : goal.loop-k-preserved
 loop-k-preserved c =
     let l = (goal.at.loop-k-preserved c).At-loop-k in
     let x = c.args in
-    let then : Bool → List ℕ = by_sign c.add_join.new.positives c.add_join.new.negatives in
-    turn-next (steps l) x.lp.now x.ln.now c.requires.ln_len (whole l) (first l) (now l) (evens l) c.loop-k.count c.loop-k.k
+    let then : Bool → List ℕ = slots c.add_join.new.list in
+    turn-next (steps l) x.others.positives.now x.others.negatives.now c.args.others.same_length (whole l) (first l) (now l) (evens l) c.loop-k.count c.loop-k.k
     c.loop-k.invariant
-    c.loop-k-test.true then c.in_ok-count.count
-    (subst (λ (t : Term). Added ((steps l).one t) (now l) c.loop-k.count then (Some c.in_ok-count.count)) c.term_at-u.ensures
+    (omega (arith, c.loop-k-test.true)) then c.in_ok-count.count
+    (subst (λ (t : Term). Added ((steps l).one t) (now l) c.loop-k.count then (Some c.in_ok-count.count)) c.at.ensures
     c.in_ok-count.ensures)
 
 pub returns-in_err-count : goal.returns-in_err-count
 returns-in_err-count c =
     let l = (goal.at.returns-in_err-count c).At-loop-k in
     let x = c.args in
-    let then : Bool → List ℕ = by_sign c.add_join.new.positives c.add_join.new.negatives in
+    let then : Bool → List ℕ = slots c.add_join.new.list in
     rw c.from_residual.ensures
-    (turn-full (steps l) x.lp.now x.ln.now c.requires.ln_len (whole l) (first l) (now l) (evens l) c.loop-k.count c.loop-k.k
+    (turn-full (steps l) x.others.positives.now x.others.negatives.now c.args.others.same_length (whole l) (first l) (now l) (evens l) c.loop-k.count c.loop-k.k
     c.loop-k.invariant
-    c.loop-k-test.true then then
-    (subst (λ (t : Term). Added ((steps l).one t) (now l) c.loop-k.count then None) c.term_at-u.ensures c.in_err-count.ensures))
+    (omega (arith, c.loop-k-test.true)) then then
+    (subst (λ (t : Term). Added ((steps l).one t) (now l) c.loop-k.count then None) c.at.ensures c.in_err-count.ensures))
 
 pub returns : goal.returns
 returns c =
     let l = (goal.at.returns c).At-loop-k in
-    turn_end (steps l) c.args.lp.now c.args.ln.now c.requires.ln_len (whole l) (first l) (now l) (evens l) c.loop-k.count c.loop-k.k
+    turn_end (steps l) c.args.others.positives.now c.args.others.negatives.now c.args.others.same_length (whole l) (first l) (now l) (evens l) c.loop-k.count c.loop-k.k
     c.loop-k.invariant (omega arith)

@@ -2,11 +2,16 @@
 use Rattle.std.specs.Prelude.{ℕ, Bool, true, false, List, take}
 use Rattle.terms.specs.Term.{terms_of}
 use Rattle.terms.specs.declared.Term.{Term}
+use Rattle.lists.specs.Entries.{term_at}
 use Rattle.lists.specs.declared.list.TermBuffer.{TermBuffer}
 use Rattle.lists.specs.declared.list.TermList.{TermList}
 
 abbrev pub terms_in : TermList → List Term
 terms_in l = terms_of l.positives.now l.negatives.now
+
+-- term k of a list
+abbrev pub nth : TermList → ℕ → Term
+nth l k = term_at l.positives.now l.negatives.now k
 
 -- two slices by sign: the positive masks for true
 abbrev pub by_sign : List ℕ → List ℕ → Bool → List ℕ

@@ -4,8 +4,7 @@ use Rattle.std.specs.Int.Bits.{bit_and}
 use Rattle.terms.specs.Lists.{any}
 use Rattle.terms.specs.Term.{term, join, inside}
 use Rattle.terms.specs.declared.Term.{Term}
-use Rattle.lists.specs.Entries.{term_at}
-use Rattle.lists.specs.List.{terms_in}
+use Rattle.lists.specs.List.{nth, terms_in}
 use Rattle.lists.specs.declared.list.TermList.{TermList}
 
 -- b is inside t, and a literal of t is neither in a nor in b
@@ -23,9 +22,7 @@ shorter_join l k t = any (λ a. any (shorter t a) k) l
 -- so are term k of the one list and term l of the other, which are there
 abbrev pub shorter_at : TermList → TermList → ℕ → ℕ → Term → Bool
 shorter_at a b k l t =
-    let first : Term = term_at a.positives.now a.negatives.now k in
-    let second : Term = term_at b.positives.now b.negatives.now l in
-    (ltb k (length a.positives.now) && ltb l (length b.positives.now)) && shorter t first second
+    (ltb k (length a.positives.now) && ltb l (length b.positives.now)) && shorter t (nth a k) (nth b l)
 
 -- what a search for such a pair finds: that there is none, or the places of one
 abbrev pub Found : TermList → TermList → Term → Option (ℕ × ℕ) → Type 0

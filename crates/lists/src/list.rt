@@ -1,6 +1,5 @@
 // Lists of terms, as two slices of one length: the positive masks, and the negative masks of the same terms.
 ghost use Rattle.std.specs.Prelude.{◌≡◌, ◌<◌, ◌≤◌, length};
-ghost use Rattle.lists.specs.Entries.{term_at};
 
 use terms::Term;
 
@@ -13,6 +12,8 @@ pub struct TermList<'a> {
 }
 
 impl<'a> TermList<'a> {
+    ghost use Rattle.lists.specs.List.{nth};
+
     // How many terms there are.
     pub fn len(self) -> usize
         ensures { result ≡ length self.entry.positives.now }
@@ -23,7 +24,7 @@ impl<'a> TermList<'a> {
     // Term k.
     pub fn at(self, k: usize) -> Term
         requires { k < length self.positives.now }
-        ensures { result ≡ term_at self.entry.positives.now self.entry.negatives.now k }
+        ensures { result ≡ nth self.entry k }
     {
         Term {
             positive: self.positives[k],

@@ -4,21 +4,21 @@ use Prim.Native.Nat.{ℕ, ◌≤◌}
 use mathlib.Core.Path.{◌≡◌, sym, ap, ◌∙◌}
 use mathlib.Core.Bool.{false, not}
 use mathlib.Core.Logic.{⊎_elim, ◌≢◌}
-use mathlib.Core.List.{List, []}
+use mathlib.Core.List.{[]}
 use native.Mathlib.Nat.{le_of_eq, le_of_lt}
 use native.Mathlib.Omega.{arith}
 use lib.Dec.{T, not_T, ltb, ltb→lt, lt→ltb, nltb→le}
-use lib.ListN.{length}
 use Rattle.masks.specs.Mask.{width}
 use Rattle.masks.proofs.Tests.{decide, is_false, along, same?}
 use Rattle.terms.specs.Lists.{Rising}
 use Rattle.terms.specs.Order.{before}
-use Rattle.terms.specs.Term.{literals, inside, terms_of, IsTerm}
+use Rattle.terms.specs.Term.{literals, inside, IsTerm}
 use Rattle.terms.specs.declared.Term.{Term}
 use Rattle.terms.proofs.Built.{as_long}
 use Rattle.terms.proofs.Leaves.{before-literals}
 use Rattle.terms.proofs.Terms.{Inside, inside-e, term-ext}
-use Rattle.lists.specs.Entries.{term_at}
+use Rattle.lists.specs.List.{nth, terms_in}
+use Rattle.lists.specs.declared.list.TermList.{TermList}
 use Rattle.lists.proofs.Parts.{rising-at}
 use Rattle.subsumption.specs.Ahead.{ahead, NoneAhead}
 
@@ -44,12 +44,13 @@ ahead-back u v t b a =
     lt→ltb (literals u) (literals t) (omega (arith, le, ltb→lt (literals v) (literals t) a))
 
 -- from a term that is not ahead of t on, none is
-pub none_ahead : (ps ns : List ℕ) → length ns ≡ length ps → Rising (before []) (terms_of ps ns) → (t : Term) (k : ℕ)
-    → ahead (term_at ps ns k) t ≡ false → NoneAhead ps ns t k
-none_ahead ps ns e r t k h i le l =
-    is_false (ahead (term_at ps ns i) t)
-    (not_T (ahead (term_at ps ns i) t)
+pub none_ahead : (l : TermList) → Rising (before []) (terms_in l) → (t : Term) (k : ℕ) → ahead (nth l k) t ≡ false → NoneAhead l t k
+none_ahead l r t k h i le below =
+    is_false (ahead (nth l i) t)
+    (not_T (ahead (nth l i) t)
     (λ a.
-    ⊎_elim (λ (d : k ≡ i). along (ap (λ (j : ℕ). ahead (term_at ps ns j) t) (sym d) ∙ h) a)
-    (λ d. along h (ahead-back (term_at ps ns k) (term_at ps ns i) t (rising-at [] ps ns e r k i (omega arith) l) a))
+    ⊎_elim (λ (d : k ≡ i). along (ap (λ (j : ℕ). ahead (nth l j) t) (sym d) ∙ h) a)
+    (λ d.
+    along h
+    (ahead-back (nth l k) (nth l i) t (rising-at [] l.positives.now l.negatives.now l.same_length r k i (omega arith) below) a))
     (same? k i)))

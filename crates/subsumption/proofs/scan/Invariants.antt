@@ -3,8 +3,8 @@ use Prim.Native.Nat.{ℕ, ◌<◌}
 use mathlib.Core.Path.{◌≡◌}
 use mathlib.Core.Bool.{false}
 use Rattle.terms.specs.Term.{inside}
-use Rattle.lists.specs.Entries.{term_at}
+use Rattle.lists.specs.List.{nth}
 use Rattle.subsumption.proofs.scan.Given as goal
 
 abbrev pub invariant-loop-k : goal.invariant-loop-k
-invariant-loop-k l = (i : ℕ) → i < l.k → inside (term_at l.positives l.negatives i) l.t ≡ false
+invariant-loop-k l = (i : ℕ) → i < l.k → inside (nth l.list i) l.t ≡ false

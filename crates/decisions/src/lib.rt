@@ -36,7 +36,7 @@ const MIDDLE: usize = 512;
 const LONG: usize = MAX_CAPACITY as usize;
 
 // How many columns two sides have.
-const COLUMNS: usize = 2 * LITERALS;
+const BOTH_COLUMNS: usize = 2 * LITERALS;
 
 // Sizes of scratch: a kept term is two masks, both sides have hints, and both have columns of one word for each 64 terms.
 const FEW_KEPT: usize = 2 * FEW;
@@ -51,11 +51,11 @@ const MIDDLE_HINTS: usize = 2 * MIDDLE;
 
 const LONG_HINTS: usize = 2 * LONG;
 
-const SHORT_COLUMNS: usize = COLUMNS * SHORT / WORD_BITS;
+const SHORT_COLUMNS: usize = BOTH_COLUMNS * SHORT / WORD_BITS;
 
-const MIDDLE_COLUMNS: usize = COLUMNS * MIDDLE / WORD_BITS;
+const MIDDLE_COLUMNS: usize = BOTH_COLUMNS * MIDDLE / WORD_BITS;
 
-const LONG_COLUMNS: usize = COLUMNS * LONG / WORD_BITS;
+const LONG_COLUMNS: usize = BOTH_COLUMNS * LONG / WORD_BITS;
 
 // Makes the terms of a decision with scratch: kept terms, which are at hand, and where to try them first. What it holds before and after
 // is left free; a least join that there is no room for is not kept.

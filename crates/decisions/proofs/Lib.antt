@@ -1,3 +1,2 @@
 pub mod OneSide
 pub mod Whole
-pub mod Fits

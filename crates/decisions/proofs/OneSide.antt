@@ -8,6 +8,7 @@ use native.Mathlib.Nat.{lt_of_lt_of_le, not-suc-le-zero}
 use native.Mathlib.Numerals.{add-one}
 use lib.Dec.{T}
 use lib.ListN.{length}
+use Rattle.std.specs.Prelude.{Option, Some, None}
 use Rattle.masks.proofs.Tests.{along, is_true, is_false, below_suc}
 use Rattle.terms.specs.Joins.{holds_one, extended}
 use Rattle.terms.specs.Lists.{insert, keep}
@@ -20,13 +21,10 @@ use Rattle.lists.specs.Capacity.{max_capacity}
 use Rattle.lists.specs.Entries.{term_at}
 use Rattle.lists.specs.List.{held}
 use Rattle.insertion.specs.Filled.{Filled}
-use Rattle.insertion.specs.declared.Kept.TheVariants.{Count, Full}
 use Rattle.decisions.specs.Extended.{Extending, side_terms, ListsOne, ListsSide}
 use Rattle.settling.specs.Growth.{Grew, Overflow, Keeps, Grown}
 use Rattle.settling.specs.Sides.{least_joins, KeptIn}
 use Rattle.settling.specs.declared.counts.Counts.{Counts}
-use Rattle.settling.specs.declared.counts.Growth.{Growth}
-use Rattle.settling.specs.declared.counts.Growth.TheVariants.{To}
 use Rattle.settling.proofs.Down.{low-in, high-in}
 use Rattle.settling.proofs.Growth.{grew_none, grew-length, grew-front, grew_then, grew-insert, over-then, over-insert}
 use Rattle.settling.proofs.Grows.{kept-grown}
@@ -50,7 +48,7 @@ module _ {x : ℕ} {ap an bp bn : List ℕ} {s : Bool → List ℕ} {kept : List
 
   module _ (i : ℕ) (l : i < length ap) where
     -- a term of the other side is inside it
-    pub one_kept : (s' : Bool → List ℕ) (kept' : List ℕ) (r : Growth) (p : ℕ)
+    pub one_kept : (s' : Bool → List ℕ) (kept' : List ℕ) (r : Option Counts) (p : ℕ)
         → (p < length bp) × (inside (term_at bp bn p) (term_at ap an i) ≡ true) → Keeps (term_at ap an i) s kept c s' kept' r
         → Grown (side_terms x sign (terms_of ap an) (terms_of bp bn)) (least_joins (terms_of ap an) (terms_of bp bn))
         (ListsOne x sign (terms_of bp bn) (term_at ap an i)) s c.listed s' kept' r
@@ -76,10 +74,10 @@ module _ {x : ℕ} {ap an bp bn : List ℕ} {s : Bool → List ℕ} {kept : List
           (subst (λ (z : Bool). T (not z)) (sym none) tt)))
 
       pub one-extended : (s' : Bool → List ℕ) (u : Term) (n cost : ℕ) → u ≡ extend (term_at ap an i) x sign
-          → Filled (insert (before []) u (held s c.listed)) s s' (Count n)
+          → Filled (insert (before []) u (held s c.listed)) s s' (Some n)
           → Grown (side_terms x sign (terms_of ap an) (terms_of bp bn)) (least_joins (terms_of ap an) (terms_of bp bn))
           (ListsOne x sign (terms_of bp bn) (term_at ap an i)) s c.listed s' kept
-          (To (record { listed = n; kept = c.kept; cost = cost }))
+          (Some (record { listed = n; kept = c.kept; cost = cost }))
       one-extended s' u n cost e f =
           let m = subst (λ (z : Term). Memᴰ z (side_terms x sign (terms_of ap an) (terms_of bp bn))) (sym e) member in
           let (grew, listed) = grew-insert g.growing.front u (side-terms u m) m f in (
@@ -90,7 +88,7 @@ module _ {x : ℕ} {ap an bp bn : List ℕ} {s : Bool → List ℕ} {kept : List
           )
 
       pub one-over : (s' : Bool → List ℕ) (u : Term) → u ≡ extend (term_at ap an i) x sign
-          → Filled (insert (before []) u (held s c.listed)) s s' Full
+          → Filled (insert (before []) u (held s c.listed)) s s' None
           → Overflow (side_terms x sign (terms_of ap an) (terms_of bp bn)) s c.listed
       one-over s' u e f =
           let m = subst (λ (z : Term). Memᴰ z (side_terms x sign (terms_of ap an) (terms_of bp bn))) (sym e) member in
@@ -156,7 +154,7 @@ module _ {x : ℕ} {ap an bp bn : List ℕ} {s₀ : Bool → List ℕ} {kept₀ 
 
     pub side-end : length ap ≤ k
         → Grown (side_terms x sign (terms_of ap an) (terms_of bp bn)) (least_joins (terms_of ap an) (terms_of bp bn))
-        (ListsSide x sign (terms_of ap an) (terms_of bp bn)) s₀ c₀.listed s kept (To c)
+        (ListsSide x sign (terms_of ap an) (terms_of bp bn)) s₀ c₀.listed s kept (Some c)
     unfolding extended
     side-end le = (h.grew, h.keeps, h.room, all)
       where

@@ -7,6 +7,7 @@ use mathlib.Core.List.Memᴰ
 use mathlib.Core.List.{List, [], ◌++◌, Memᴰ}
 use native.Mathlib.Nat.{not-suc-le-zero}
 use lib.ListN.{length}
+use Rattle.std.specs.Prelude.{Some, None}
 use Rattle.terms.specs.Joins.{extended, decision_terms}
 use Rattle.terms.specs.Lists.{sort}
 use Rattle.terms.specs.Order.{before}
@@ -16,12 +17,10 @@ use Rattle.lists.specs.Capacity.{max_capacity}
 use Rattle.lists.specs.Entries.{term_at}
 use Rattle.lists.specs.List.{held}
 use Rattle.insertion.specs.Filled.{Filled}
-use Rattle.insertion.specs.declared.Kept.TheVariants.{Count, Full}
 use Rattle.decisions.specs.Extended.{Extending, side_terms, ListsSide}
 use Rattle.settling.specs.Growth.{Grew, Overflow, Growing, Grown}
 use Rattle.settling.specs.Sides.{DecidedAt, least_joins, AllSettled, Settled}
 use Rattle.settling.specs.declared.counts.Counts.{Counts}
-use Rattle.settling.specs.declared.counts.Growth.TheVariants.{To}
 use Rattle.settling.proofs.Growth.{grew-front, grew_then, grew-whole, over-then, over-whole}
 use Rattle.settling.proofs.Least.{least-terms, least-turned, all_listed, place_of}
 use Rattle.decisions.proofs.OneSide.{side-terms}
@@ -92,12 +91,12 @@ module _ {x : ℕ} {ap an bp bn : List ℕ} (h : DecidedAt x ap an bp bn) where
         (Memᴰ.append_cases (extended x true a b) n))
         (Memᴰ.append_cases (extended x false b a) m)
 
-    pub over₁ : {s' : Bool → List ℕ} → Overflow (side_terms x false a b) s₀ 0 → Filled (sort (before []) whole) s₀ s' Full
+    pub over₁ : {s' : Bool → List ℕ} → Overflow (side_terms x false a b) s₀ 0 → Filled (sort (before []) whole) s₀ s' None
     over₁ o = over-whole f.growing.front refl whole-terms (over-wider low-more o)
 
     -- ---- then the second
     module _ (s₁ : Bool → List ℕ) (kept₁ : List ℕ) (c : Counts)
-        (g₁ : Grown (side_terms x false a b) (least_joins a b) (ListsSide x false a b) s₀ 0 s₁ kept₁ (To c)) where
+        (g₁ : Grown (side_terms x false a b) (least_joins a b) (ListsSide x false a b) s₀ 0 s₁ kept₁ (Some c)) where
       abbrev pub second : Extending x bp bn ap an s₁ kept₁ c
       second =
           record {
@@ -112,7 +111,7 @@ module _ {x : ℕ} {ap an bp bn : List ℕ} (h : DecidedAt x ap an bp bn) where
             free = h.not-high;
           }
 
-      pub over₂ : {s' : Bool → List ℕ} → Overflow (side_terms x true b a) s₁ c.listed → Filled (sort (before []) whole) s₀ s' Full
+      pub over₂ : {s' : Bool → List ℕ} → Overflow (side_terms x true b a) s₁ c.listed → Filled (sort (before []) whole) s₀ s' None
       over₂ o =
           over-whole f.growing.front refl whole-terms
           (over-then f.growing.front (grew-wider low-more g₁.0) (over-wider high-more o))
@@ -122,7 +121,7 @@ module _ {x : ℕ} {ap an bp bn : List ℕ} (h : DecidedAt x ap an bp bn) where
 
       -- ---- then the joins
       module _ (s₂ : Bool → List ℕ) (kept₂ : List ℕ) (d : Counts)
-          (g₂ : Grown (side_terms x true b a) (least_joins b a) (ListsSide x true b a) s₁ c.listed s₂ kept₂ (To d)) where
+          (g₂ : Grown (side_terms x true b a) (least_joins b a) (ListsSide x true b a) s₁ c.listed s₂ kept₂ (Some d)) where
         pub third : Growing ap an bp bn s₂ kept₂ d
         third =
             growing-turned
@@ -136,13 +135,13 @@ module _ {x : ℕ} {ap an bp bn : List ℕ} (h : DecidedAt x ap an bp bn) where
         so-far₂ : Grew whole s₀ 0 s₂ d.listed
         so-far₂ = grew_then f.growing.front so-far₁ (grew-wider high-more g₂.0)
 
-        pub over₃ : {s' : Bool → List ℕ} → Overflow (least_joins a b) s₂ d.listed → Filled (sort (before []) whole) s₀ s' Full
+        pub over₃ : {s' : Bool → List ℕ} → Overflow (least_joins a b) s₂ d.listed → Filled (sort (before []) whole) s₀ s' None
         over₃ o = over-whole f.growing.front refl whole-terms (over-then f.growing.front so-far₂ (over-wider least_more o))
 
         -- ---- and that is all
         pub ends : (s₃ : Bool → List ℕ) (kept₃ : List ℕ) (e : Counts)
-            → Grown (least_joins a b) (least_joins a b) (λ l. AllSettled (least_joins a b) l ap an bp bn) s₂ d.listed s₃ kept₃ (To e)
-            → Filled (sort (before []) whole) s₀ s₃ (Count e.listed)
+            → Grown (least_joins a b) (least_joins a b) (λ l. AllSettled (least_joins a b) l ap an bp bn) s₂ d.listed s₃ kept₃ (Some e)
+            → Filled (sort (before []) whole) s₀ s₃ (Some e.listed)
         unfolding decision_terms
         ends s₃ kept₃ e g₃ =
             grew-whole f.growing.front refl whole-terms

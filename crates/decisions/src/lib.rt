@@ -1,25 +1,24 @@
 // The terms of a decision from the terms of its sides: every search for a shorter join ends in a new term of the list.
 #![tactic(auto)]
 
-ghost use Rattle.std.specs.Prelude.{◌≡◌, [], ◌*◌, ◌≤◌, length};
+ghost use Rattle.std.specs.Prelude.{◌≡◌, [], ◌*◌, ◌≤◌, length, replicate};
 ghost use Rattle.terms.specs.Joins.{decision_terms};
 ghost use Rattle.terms.specs.Lists.{sort};
 ghost use Rattle.terms.specs.Order.{before};
 ghost use Rattle.terms.specs.Term.{terms_of};
 ghost use Rattle.lists.specs.Capacity.{max_capacity};
-ghost use Rattle.hints.specs.Scratch.{HasHalves};
+ghost use Rattle.hints.specs.Scratch.{max_words, column_count, HasHalves};
 ghost use Rattle.lists.specs.List.{by_sign};
 ghost use Rattle.insertion.specs.Filled.{Filled};
 ghost use Rattle.settling.specs.Sides.{DecidedAt};
-ghost use Rattle.decisions.specs.Sizes.{short_side, middle_side};
+ghost use Rattle.decisions.specs.Sizes.{short_side};
 
 mod side;
 
-use hints::{LITERALS, WORD_BITS};
-use insertion::Kept;
+use hints::{LITERALS, NO_PLACE, WORD_BITS};
 use lists::MAX_CAPACITY;
 use pairing::pairs::join_all;
-use settling::counts::{Counts, Growth};
+use settling::counts::Counts;
 use side::{Literal, list_side};
 
 // How many least joins are few.
@@ -38,7 +37,26 @@ const MIDDLE: usize = 512;
 const LONG: usize = MAX_CAPACITY as usize;
 
 // How many columns two sides have.
-const COLUMNS: usize = 2 * LITERALS;
+const BOTH_COLUMNS: usize = 2 * LITERALS;
+
+// Sizes of scratch: a kept term is two masks, both sides have hints, and both have columns of one word for each 64 terms.
+const FEW_KEPT: usize = 2 * FEW;
+
+const SOME_KEPT: usize = 2 * SOME;
+
+const ALL_KEPT: usize = 2 * LONG;
+
+const SHORT_HINTS: usize = 2 * SHORT;
+
+const MIDDLE_HINTS: usize = 2 * MIDDLE;
+
+const LONG_HINTS: usize = 2 * LONG;
+
+const SHORT_COLUMNS: usize = BOTH_COLUMNS * SHORT / WORD_BITS;
+
+const MIDDLE_COLUMNS: usize = BOTH_COLUMNS * MIDDLE / WORD_BITS;
+
+const LONG_COLUMNS: usize = BOTH_COLUMNS * LONG / WORD_BITS;
 
 // Makes the terms of a decision with scratch: kept terms, which are at hand, and where to try them first. What it holds before and after
 // is left free; a least join that there is no room for is not kept.
@@ -53,7 +71,7 @@ fn decide(
     bp: &[u64],
     bn: &[u64],
     x: u32,
-) -> Kept
+) -> Option<usize>
     requires decided_at { DecidedAt x ap.now an.now bp.now bn.now }
     requires negatives_len { (length negatives.old ≡ length positives.old) × (length kept.old ≤ 2 * max_capacity) }
     requires has_halves { HasHalves (length ap.now) (length bp.now) columns.old }
@@ -75,175 +93,55 @@ fn decide(
         variable: x,
         sign: true,
     };
-    let Growth::To(c) = list_side(positives, negatives, kept, hints, ap, an, bp, bn, no, none)
-    else {
-        return Kept::Full;
-    };
-    let Growth::To(d) = list_side(positives, negatives, kept, hints, bp, bn, ap, an, yes, c) else {
-        return Kept::Full;
-    };
-    let Growth::To(e) = join_all(
+    let c = list_side(positives, negatives, kept, hints, ap, an, bp, bn, no, none)?;
+    let d = list_side(positives, negatives, kept, hints, bp, bn, ap, an, yes, c)?;
+    let e = join_all(
         positives, negatives, kept, hints, columns, ap, an, bp, bn, d,
-    ) else {
-        return Kept::Full;
-    };
-    Kept::Count(e.listed)
+    )?;
+    Some(e.listed)
 }
 
-// The larger of two numbers.
-fn larger(m: usize, n: usize) -> usize
-    ensures { (m ≤ result) × (n ≤ result) }
+// The same with scratch of these sizes.
+fn decide_with<const KEPT: usize, const HINTS: usize, const COLUMNS: usize>(
+    positives: &mut [u64],
+    negatives: &mut [u64],
+    ap: &[u64],
+    an: &[u64],
+    bp: &[u64],
+    bn: &[u64],
+    x: u32,
+) -> Option<usize>
+    requires decided_at { DecidedAt x ap.now an.now bp.now bn.now }
+    requires negatives_len { length negatives.old ≡ length positives.old }
+    requires sizes { (KEPT ≤ 2 * max_capacity) × (HINTS ≤ 2 * max_capacity) × (COLUMNS ≤ 2 * column_count * max_words) }
+    requires has_halves { HasHalves (length ap.now) (length bp.now) (replicate COLUMNS 0) }
+    ensures { Filled
+        (sort (before []) (decision_terms x (terms_of ap.now an.now) (terms_of bp.now bn.now)))
+        (by_sign positives.old negatives.old)
+        (by_sign positives.new negatives.new) result }
 {
-    if m < n {
-        return n;
-    }
-    m
+    let mut kept = [0u64; KEPT];
+    let mut hints = [NO_PLACE; HINTS];
+    let mut columns = [0u64; COLUMNS];
+    decide(
+        positives,
+        negatives,
+        &mut kept,
+        &mut hints,
+        &mut columns,
+        ap,
+        an,
+        bp,
+        bn,
+        x,
+    )
 }
 
 // There are few least joins: they are joins of m and n terms, and no more than the capacity are listed.
 fn has_few_joins(m: usize, n: usize, capacity: usize) -> bool
     requires { (m ≤ short_side) × (n ≤ short_side) }
 {
-    if capacity <= FEW {
-        return true;
-    }
-    m * n <= FEW
-}
-
-// The terms of a decision, with scratch for short sides and few least joins.
-fn decide_few(
-    positives: &mut [u64],
-    negatives: &mut [u64],
-    ap: &[u64],
-    an: &[u64],
-    bp: &[u64],
-    bn: &[u64],
-    x: u32,
-) -> Kept
-    requires decided_at { DecidedAt x ap.now an.now bp.now bn.now }
-    requires negatives_len { (length negatives.old ≡ length positives.old) × (length ap.now ≤ short_side) × (length bp.now ≤ short_side) }
-    ensures { Filled
-        (sort (before []) (decision_terms x (terms_of ap.now an.now) (terms_of bp.now bn.now)))
-        (by_sign positives.old negatives.old)
-        (by_sign positives.new negatives.new) result }
-{
-    let mut kept = [0u64; 2 * FEW];
-    let mut hints = [0u16; 2 * SHORT];
-    let mut columns = [0u64; COLUMNS * SHORT / WORD_BITS];
-    decide(
-        positives,
-        negatives,
-        &mut kept,
-        &mut hints,
-        &mut columns,
-        ap,
-        an,
-        bp,
-        bn,
-        x,
-    )
-}
-
-// The terms of a decision, with scratch for short sides.
-fn decide_short(
-    positives: &mut [u64],
-    negatives: &mut [u64],
-    ap: &[u64],
-    an: &[u64],
-    bp: &[u64],
-    bn: &[u64],
-    x: u32,
-) -> Kept
-    requires decided_at { DecidedAt x ap.now an.now bp.now bn.now }
-    requires negatives_len { (length negatives.old ≡ length positives.old) × (length ap.now ≤ short_side) × (length bp.now ≤ short_side) }
-    ensures { Filled
-        (sort (before []) (decision_terms x (terms_of ap.now an.now) (terms_of bp.now bn.now)))
-        (by_sign positives.old negatives.old)
-        (by_sign positives.new negatives.new) result }
-{
-    let mut kept = [0u64; 2 * SOME];
-    let mut hints = [0u16; 2 * SHORT];
-    let mut columns = [0u64; COLUMNS * SHORT / WORD_BITS];
-    decide(
-        positives,
-        negatives,
-        &mut kept,
-        &mut hints,
-        &mut columns,
-        ap,
-        an,
-        bp,
-        bn,
-        x,
-    )
-}
-
-// The terms of a decision, with scratch for sides of middle length.
-fn decide_middle(
-    positives: &mut [u64],
-    negatives: &mut [u64],
-    ap: &[u64],
-    an: &[u64],
-    bp: &[u64],
-    bn: &[u64],
-    x: u32,
-) -> Kept
-    requires decided_at { DecidedAt x ap.now an.now bp.now bn.now }
-    requires negatives_len { (length negatives.old ≡ length positives.old) × (length ap.now ≤ middle_side) × (length bp.now ≤ middle_side) }
-    ensures { Filled
-        (sort (before []) (decision_terms x (terms_of ap.now an.now) (terms_of bp.now bn.now)))
-        (by_sign positives.old negatives.old)
-        (by_sign positives.new negatives.new) result }
-{
-    let mut kept = [0u64; 2 * LONG];
-    let mut hints = [0u16; 2 * MIDDLE];
-    let mut columns = [0u64; COLUMNS * MIDDLE / WORD_BITS];
-    decide(
-        positives,
-        negatives,
-        &mut kept,
-        &mut hints,
-        &mut columns,
-        ap,
-        an,
-        bp,
-        bn,
-        x,
-    )
-}
-
-// The terms of a decision, with scratch for any sides.
-fn decide_long(
-    positives: &mut [u64],
-    negatives: &mut [u64],
-    ap: &[u64],
-    an: &[u64],
-    bp: &[u64],
-    bn: &[u64],
-    x: u32,
-) -> Kept
-    requires decided_at { DecidedAt x ap.now an.now bp.now bn.now }
-    requires negatives_len { length negatives.old ≡ length positives.old }
-    ensures { Filled
-        (sort (before []) (decision_terms x (terms_of ap.now an.now) (terms_of bp.now bn.now)))
-        (by_sign positives.old negatives.old)
-        (by_sign positives.new negatives.new) result }
-{
-    let mut kept = [0u64; 2 * LONG];
-    let mut hints = [0u16; 2 * LONG];
-    let mut columns = [0u64; COLUMNS * LONG / WORD_BITS];
-    decide(
-        positives,
-        negatives,
-        &mut kept,
-        &mut hints,
-        &mut columns,
-        ap,
-        an,
-        bp,
-        bn,
-        x,
-    )
+    capacity <= FEW || m * n <= FEW
 }
 
 // Makes the terms of a decision by x from those of its sides: a where x is no, b where it is yes. Scratch is zeroed when it is made, so
@@ -256,7 +154,7 @@ pub fn decision(
     bp: &[u64],
     bn: &[u64],
     x: u32,
-) -> Kept
+) -> Option<usize>
     requires decided_at { DecidedAt x ap.now an.now bp.now bn.now }
     requires negatives_len { length negatives.old ≡ length positives.old }
     ensures { Filled
@@ -264,15 +162,21 @@ pub fn decision(
         (by_sign positives.old negatives.old)
         (by_sign positives.new negatives.new) result }
 {
-    let longer = larger(ap.len(), bp.len());
+    let longer = ap.len().max(bp.len());
     if longer > MIDDLE {
-        return decide_long(positives, negatives, ap, an, bp, bn, x);
+        return decide_with::<ALL_KEPT, LONG_HINTS, LONG_COLUMNS>(
+            positives, negatives, ap, an, bp, bn, x,
+        );
     }
     if longer > SHORT {
-        return decide_middle(positives, negatives, ap, an, bp, bn, x);
+        return decide_with::<ALL_KEPT, MIDDLE_HINTS, MIDDLE_COLUMNS>(
+            positives, negatives, ap, an, bp, bn, x,
+        );
     }
     if has_few_joins(ap.len(), bp.len(), positives.len()) {
-        return decide_few(positives, negatives, ap, an, bp, bn, x);
+        return decide_with::<FEW_KEPT, SHORT_HINTS, SHORT_COLUMNS>(
+            positives, negatives, ap, an, bp, bn, x,
+        );
     }
-    decide_short(positives, negatives, ap, an, bp, bn, x)
+    decide_with::<SOME_KEPT, SHORT_HINTS, SHORT_COLUMNS>(positives, negatives, ap, an, bp, bn, x)
 }

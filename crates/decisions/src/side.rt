@@ -9,10 +9,8 @@ ghost use Rattle.settling.specs.Growth.{Grown};
 ghost use Rattle.decisions.specs.Extended.{Extending, side_terms, ListsOne, ListsSide};
 ghost use Rattle.settling.specs.Sides.{least_joins};
 
-use insertion::Kept;
 use lists::MAX_CAPACITY;
-use settling::counts::{Counts, Growth, keep};
-use subsumption::Found;
+use settling::counts::{Counts, keep};
 use terms::Term;
 
 // A literal: a variable and its sign.
@@ -22,11 +20,11 @@ pub struct Literal {
     pub sign: bool,
 }
 
-// A place of the side, and whether a term of the other side is inside the term there.
+// A place of the side, and that of a term of the other side inside the term there, if one was found.
 #[derive(Clone, Copy)]
 struct One {
     at: usize,
-    found: Found,
+    found: Option<usize>,
 }
 
 // Lists the term at a place.
@@ -41,7 +39,7 @@ fn list_one(
     literal: Literal,
     counts: Counts,
     one: One,
-) -> Growth
+) -> Option<Counts>
     requires extending { Extending literal.variable ap.now an.now bp.now bn.now (by_sign positives.old negatives.old) kept.old
         counts }
     requires at_in_bounds { (one.at < length ap.now) × FoundInside bp.now bn.now (term_at ap.now an.now one.at) one.found }
@@ -58,53 +56,32 @@ fn list_one(
     let found = one.found;
     let t = lists::term_at(ap, an, at);
     match found {
-        Found::At(_) => keep(positives, negatives, kept, counts, t),
-        Found::Nowhere => {
+        Some(_) => keep(positives, negatives, kept, counts, t),
+        None => {
             let u = terms::extend(t, literal.variable, literal.sign);
-            let Kept::Count(c) = insertion::insert(positives, negatives, counts.listed, u) else {
-                return Growth::Over;
-            };
-            Growth::To(Counts {
-                listed: c,
-                kept: counts.kept,
-                cost: counts.cost,
-            })
+            let listed = insertion::insert(positives, negatives, counts.listed, u)?;
+            Some(Counts { listed, ..counts })
         }
     }
 }
 
 // The next place to try first: the one after that where a term was found.
-fn guess_after(found: Found, guess: usize) -> usize {
+fn guess_after(found: Option<usize>, guess: usize) -> usize {
     match found {
-        Found::At(k) => {
-            if k < MAX_CAPACITY as usize {
-                return k + 1;
-            }
-            guess
-        }
-        Found::Nowhere => guess,
+        Some(k) if k < MAX_CAPACITY as usize => k + 1,
+        _ => guess,
     }
-}
-
-// The place of the last kept term, where it is new.
-fn hint_of(before: usize, after: usize) -> usize {
-    if before < after {
-        return after - 1;
-    }
-    hints::NONE as usize
 }
 
 // The place of the hint of a side's term: those of the low side, whose sign is no, stand in the first half.
 fn hint_place(hints: &[u16], sign: bool, k: usize) -> usize {
-    if sign {
-        if k < MAX_CAPACITY as usize {
-            return hints.len() / 2 + k;
-        }
+    if sign && k < MAX_CAPACITY as usize {
+        return hints.len() / 2 + k;
     }
     k
 }
 
-// Lists the terms of the side a.
+// Lists the terms of the side a. The hint of one that is kept is itself.
 pub fn list_side(
     positives: &mut [u64],
     negatives: &mut [u64],
@@ -116,7 +93,7 @@ pub fn list_side(
     bn: &[u64],
     literal: Literal,
     start: Counts,
-) -> Growth
+) -> Option<Counts>
     requires { Extending literal.variable ap.now an.now bp.now bn.now (by_sign positives.old negatives.old) kept.old
         start }
     ensures { Grown
@@ -131,22 +108,19 @@ pub fn list_side(
     let mut counts = start;
     let mut end = 0;
     let mut guess = 0;
-    let mut k = 0;
-    while k < ap.len() {
+    for k in 0..ap.len() {
         let t = lists::term_at(ap, an, k);
         end = subsumption::end_ahead(bp, bn, end, t);
         let found = subsumption::find_inside(bp, bn, end, guess, t);
         let one = One { at: k, found };
-        let Growth::To(next) = list_one(
+        let next = list_one(
             positives, negatives, kept, ap, an, bp, bn, literal, counts, one,
-        ) else {
-            return Growth::Over;
-        };
-        let place = hint_place(hints, literal.sign, k);
-        hints::set_hint(hints, place, hint_of(counts.kept, next.kept));
+        )?;
+        if counts.kept < next.kept {
+            hints::set_hint(hints, hint_place(hints, literal.sign, k), counts.kept);
+        }
         guess = guess_after(found, guess);
         counts = next;
-        k += 1;
     }
-    Growth::To(counts)
+    Some(counts)
 }

@@ -7,6 +7,7 @@ use mathlib.Core.Logic.{⊎_elim}
 use native.Mathlib.Nat.{le_refl, le_trans, eq-or-lt_of_le}
 use native.Mathlib.Omega.{arith}
 use lib.ListN.{length, take, drop}
+use Rattle.std.specs.Prelude.{Option, Some, None}
 use Rattle.table.specs.Layout.{max_children}
 use Rattle.table.specs.declared.gates.Gate.{Gate}
 use Rattle.table.specs.declared.gates.Gate.TheVariants.{Constant, Literal, Decision, Conjunction, Unknown}
@@ -15,8 +16,6 @@ use Rattle.terms.specs.declared.Term.{Term}
 use Rattle.lists.specs.Capacity.{max_capacity}
 use Rattle.lists.proofs.Parts.{length-terms}
 use Rattle.insertion.specs.Filled.{masks_of}
-use Rattle.insertion.specs.declared.Kept.{Kept}
-use Rattle.insertion.specs.declared.Kept.TheVariants.{Count, Full}
 use Rattle.insertion.proofs.Parts.{terms-masks, length-masks, kept-count, kept_full, count_kept, full-kept}
 use Rattle.nodes.specs.Part.{gate_made, PairGiven, Given, terms_from, terms_at, laid_at, places, made_from, node_made, PartFilled}
 use Rattle.nodes.specs.Part.{child_from, child_size, child_terms, NodeGiven, Laid}
@@ -83,7 +82,7 @@ module _ (s : Bool → List ℕ) (counts : List ℕ) (p : NodePart) where
   two_made = gate_made p.sign p.gate
 
   -- l was to be made in the part
-  abbrev Filled : List Term → (Bool → List ℕ) → (Bool → List ℕ) → Kept → Type 0
+  abbrev Filled : List Term → (Bool → List ℕ) → (Bool → List ℕ) → Option ℕ → Type 0
   Filled l = PartFilled l p.at p.capacity
 
   -- the buffers s' hold what is made from place k on where `high` says, and are s but for the part, which is as it was before the first
@@ -254,12 +253,12 @@ module _ (s : Bool → List ℕ) (counts : List ℕ) (p : NodePart) where
             (subst (PairGiven p.gate (v k)) (sym j.terms) (pair k j.some)))
 
         -- what was made
-        module _ (s'' : Bool → List ℕ) (r : Kept) (filled : Filled (two_made (terms_at s' low) (terms_at s' high)) s' s'' r) where
+        module _ (s'' : Bool → List ℕ) (r : Option ℕ) (filled : Filled (two_made (terms_at s' low) (terms_at s' high)) s' s'' r) where
           here : Filled (after k) s' s'' r
           here =
               subst (λ (l : List Term). Filled l s' s'' r) (ap₂ two_made low-terms j.terms ∙ sym (after-this k j.some)) filled
 
-          pub making-more : (n : ℕ) → r ≡ Count n → Making k s'' (record { from = p.at; count = n })
+          pub making-more : (n : ℕ) → r ≡ Some n → Making k s'' (record { from = p.at; count = n })
           making-more n e =
               let (fits, size) = kept-count p.capacity (after k) n (sym e ∙ here.answer) in
               let over : (b : Bool) → s'' b ≡ laid_at p.at p.capacity (masks_of b (after k)) (s b) = λ b.
@@ -288,7 +287,7 @@ module _ (s : Bool → List ℕ) (counts : List ℕ) (p : NodePart) where
                   ∙ laid-back p.at p.capacity (s b) (inside b) (masks_of b (after k))
 
           -- more terms than the part holds: so has the whole
-          pub making-full : r ≡ Full → Filled (node_made p.sign p.gate p.children.count v) s s'' r
+          pub making-full : r ≡ None → Filled (node_made p.sign p.gate p.children.count v) s s'' r
           making-full e =
               let over : p.capacity < length (after k) = kept_full p.capacity (after k) (sym e ∙ here.answer) in
               let most : length (after k) ≤ length (after 0) = most-after k j.some in
@@ -298,13 +297,13 @@ module _ (s : Bool → List ℕ) (counts : List ℕ) (p : NodePart) where
 
     -- all are made
     pub making-end : (s' : Bool → List ℕ) (high : Terms) → Making 0 s' high
-        → Filled (node_made p.sign p.gate p.children.count v) s s' (Count high.count)
+        → Filled (node_made p.sign p.gate p.children.count v) s s' (Some high.count)
     making-end s' high j =
         let t = given.two in
         let size = j.size in
         let room = j.room in
-        subst (λ (l : List Term). Filled l s s' (Count high.count)) all_after
+        subst (λ (l : List Term). Filled l s s' (Some high.count)) all_after
         (record {
-          answer = ap Count size ∙ count_kept p.capacity (after 0) (omega arith);
+          answer = ap Some size ∙ count_kept p.capacity (after 0) (omega arith);
           masks = λ h b. j.over b ∙ ap (λ (l : List Term). laid_at p.at p.capacity (masks_of b l) (s b)) (j.whole (omega arith));
         })

@@ -8,17 +8,17 @@ use native.Mathlib.Nat.{zero-add, suc-add}
 use lib.ListN.{length, take, drop, length-append, length-drop, take-append-drop}
 use lib.Seq.{length-take-le, take_at, drop_at, take-append_seam, drop-append-add}
 use lib.Seq.{take-take, drop-drop, take-nil}
+use Rattle.std.specs.Prelude.{Option}
 use Rattle.table.specs.declared.gates.Gate.{Gate}
 use Rattle.terms.specs.declared.Term.{Term}
 use Rattle.insertion.specs.Filled.{masks_of, laid, kept_of, Filled}
-use Rattle.insertion.specs.declared.Kept.{Kept}
 use Rattle.nodes.specs.Part.{Given, laid_at, PartFilled}
 
 pub length_part : (at size : ℕ) (s : List ℕ) → at + size ≤ length s → length (take size (drop at s)) ≡ size
 length_part at size s h = length-take-le size (drop at s) (rw (length-drop at s) (omega arith))
 
 -- a list made in a part q, which is p then, seen from the whole
-pub part_filled : (l : List Term) (at capacity : ℕ) (s q p s' : Bool → List ℕ) (k : Kept) → at + capacity ≤ length (s true)
+pub part_filled : (l : List Term) (at capacity : ℕ) (s q p s' : Bool → List ℕ) (k : Option ℕ) → at + capacity ≤ length (s true)
     → ((b : Bool) → q b ≡ take capacity (drop at (s b)))
     → ((b : Bool) → s' b ≡ take at (s b) ++ (p b ++ drop capacity (drop at (s b))))
     → Filled l q p k → PartFilled l at capacity s s' k

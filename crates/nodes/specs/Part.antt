@@ -1,5 +1,5 @@
 -- A node's part of the buffers, and what is made there. No public contract rests on these.
-use Rattle.std.specs.Prelude.{ℕ, zero, suc, ◌+◌, ◌*◌, ◌≤◌, ◌<◌, ◌≡◌, Bool, true, false, cond, T, length, take, drop, get_or}
+use Rattle.std.specs.Prelude.{ℕ, zero, suc, ◌+◌, ◌*◌, ◌≤◌, ◌<◌, ◌≡◌, Bool, true, false, cond, T, length, take, drop, get_or, Option}
 use mathlib.Core.List.{List, [], ◌∷◌, ◌++◌, Memᴰ}
 use Rattle.masks.specs.Mask.{width}
 use Rattle.table.specs.Gate.{decoded_at}
@@ -15,7 +15,6 @@ use Rattle.terms.specs.declared.Term.{Term}
 use Rattle.circuits.specs.Function.{signed}
 use Rattle.lists.specs.Capacity.{max_capacity}
 use Rattle.insertion.specs.Filled.{masks_of, laid, kept_of}
-use Rattle.insertion.specs.declared.Kept.{Kept}
 use Rattle.settling.specs.Sides.{Sides, SidesAt, DecidedAt}
 use Rattle.nodes.specs.declared.NodePart.{NodePart}
 use Rattle.nodes.specs.declared.Terms.{Terms}
@@ -70,7 +69,7 @@ abbrev pub laid_at : ℕ → ℕ → List ℕ → List ℕ → List ℕ
 laid_at at capacity l s = take at s ++ (laid l (take capacity (drop at s)) ++ drop capacity (drop at s))
 
 -- the list l was to be made in the part of capacity entries of s from `at` on
-pub record PartFilled (l : List Term) (at capacity : ℕ) (s s' : Bool → List ℕ) (k : Kept) : Type 0 where
+pub record PartFilled (l : List Term) (at capacity : ℕ) (s s' : Bool → List ℕ) (k : Option ℕ) : Type 0 where
   pub answer : k ≡ kept_of capacity l
   pub masks : length l ≤ capacity → (b : Bool) → s' b ≡ laid_at at capacity (masks_of b l) (s b)
 

@@ -17,13 +17,13 @@ ghost use Rattle.settling.specs.Sides.{SidesAt};
 ghost use Rattle.nodes.specs.Part.{gate_made, node_made, Given, NodeGiven, terms_at, child_from, child_size, child_terms, Laid};
 ghost use Rattle.nodes.specs.Part.{PartFilled, IsPart, places, HasPlace};
 
-use insertion::Kept;
 use table::gates::{Gate, decode_at};
 use table::layout::Children;
 use terms::Term;
 
-// Makes the terms of a constant: the term with no literal, or none.
-fn constant(positives: &mut [u64], negatives: &mut [u64], value: bool) -> Kept
+// Makes the terms of a constant: the term with no literal, or none. How many they are, here and below; none where they are more than
+// there is room for.
+fn constant(positives: &mut [u64], negatives: &mut [u64], value: bool) -> Option<usize>
     requires { length negatives.old ≡ length positives.old }
     ensures { Filled (cond value (empty ∷ []) []) (by_sign positives.old negatives.old)
         (by_sign positives.new negatives.new) result }
@@ -32,11 +32,11 @@ fn constant(positives: &mut [u64], negatives: &mut [u64], value: bool) -> Kept
     if value {
         return insertion::insert(positives, negatives, 0, empty);
     }
-    Kept::Count(0)
+    Some(0)
 }
 
 // Makes the term of a literal.
-fn literal(positives: &mut [u64], negatives: &mut [u64], sign: bool, x: u32) -> Kept
+fn literal(positives: &mut [u64], negatives: &mut [u64], sign: bool, x: u32) -> Option<usize>
     requires { (x < width) × (length negatives.old ≡ length positives.old) }
     ensures { Filled (extend empty x sign ∷ []) (by_sign positives.old negatives.old)
         (by_sign positives.new negatives.new) result }
@@ -64,7 +64,7 @@ fn conjoin(
     bp: &[u64],
     bn: &[u64],
     sign: bool,
-) -> Kept
+) -> Option<usize>
     requires { SidesAt ap.now an.now bp.now bn.now × (length negatives.old ≡ length positives.old) }
     ensures { Filled
         (sort (before [])
@@ -89,7 +89,7 @@ fn make(
     bn: &[u64],
     gate: Gate,
     sign: bool,
-) -> Kept
+) -> Option<usize>
     requires given { Given gate ap.now an.now bp.now bn.now }
     requires negatives_len { (length negatives.old ≡ length positives.old) × (length an.now ≡ length ap.now)
         × (length bn.now ≡ length bp.now) }
@@ -103,7 +103,7 @@ fn make(
         Gate::Literal(b, x) => literal(positives, negatives, signed(sign, b), x),
         Gate::Decision(x, _, _) => decisions::decision(positives, negatives, ap, an, bp, bn, x),
         Gate::Conjunction => conjoin(positives, negatives, ap, an, bp, bn, sign),
-        Gate::Unknown => Kept::Count(0),
+        Gate::Unknown => Some(0),
     }
 }
 
@@ -135,7 +135,7 @@ fn fill_part(
     bp: &mut [u64],
     bn: &mut [u64],
     part: Part,
-) -> Kept
+) -> Option<usize>
     requires given { Given part.gate (take part.low.count (drop part.low.from positives.old))
         (take part.low.count (drop part.low.from negatives.old))
         (take part.high.count (drop part.high.from positives.old))
@@ -226,7 +226,7 @@ pub fn fill_node(
     bn: &mut [u64],
     counts: &[u32],
     part: NodePart,
-) -> Kept
+) -> Option<usize>
     requires laid { Laid (by_sign positives.old negatives.old) counts.now part
         × NodeGiven part.sign part.gate (child_terms (by_sign positives.old negatives.old) counts.now part)
         (places part.gate part.children.count) }
@@ -239,10 +239,9 @@ pub fn fill_node(
 {
     let gate = part.gate;
     let children = part.children;
-    let mut k = places(gate, children.count) - 1;
-    let mut high = child_at(counts, part, k);
-    while 0 < k {
-        k -= 1;
+    let last = places(gate, children.count) - 1;
+    let mut high = child_at(counts, part, last);
+    for k in (0..last).rev() {
         let pair = Part {
             gate,
             sign: part.sign,
@@ -251,15 +250,13 @@ pub fn fill_node(
             low: child_at(counts, part, k),
             high,
         };
-        let Kept::Count(c) = fill_part(positives, negatives, ap, an, bp, bn, pair) else {
-            return Kept::Full;
-        };
+        let count = fill_part(positives, negatives, ap, an, bp, bn, pair)?;
         high = Terms {
             from: part.at,
-            count: c,
+            count,
         };
     }
-    Kept::Count(high.count)
+    Some(high.count)
 }
 
 // The part of node i, or of its negation where the sign is false.

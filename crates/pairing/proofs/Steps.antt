@@ -9,6 +9,7 @@ use native.Mathlib.Numerals.{add-one}
 use native.Mathlib.Omega.{arith}
 use lib.Dec.{ltb, ltb→lt, nltb→le}
 use lib.ListN.{length}
+use Rattle.std.specs.Prelude.{Some}
 use Rattle.masks.proofs.Tests.{below_suc, decide}
 use Rattle.terms.specs.Term.{terms_of}
 use Rattle.terms.specs.declared.Term.{Term}
@@ -20,7 +21,6 @@ use Rattle.settling.specs.Sides.{SidesAt, least_joins, Settled, SettledFrom, All
 use Rattle.pairing.specs.Pairs.{Paired}
 use Rattle.settling.specs.declared.counts.Counts.{Counts}
 use Rattle.settling.proofs.Down.{low-in, high-in}
-use Rattle.settling.specs.declared.counts.Growth.TheVariants.{To}
 use Rattle.pairing.specs.declared.pairs.Side.{Side}
 use Rattle.pairing.specs.declared.pairs.Turn.{Turn}
 use Rattle.settling.proofs.Growth.{grew_none, grew-length, grew-front, grew_then, over-then}
@@ -170,7 +170,7 @@ module _ {ap an bp bn : List ℕ} {s₀ : Bool → List ℕ} {kept₀ : List ℕ
     pub pairs_end : (cost : ℕ) → (length ap ≤ t.low.at) ⊎ (length bp ≤ t.high.at)
         → Grown (least_joins (terms_of ap an) (terms_of bp bn)) (least_joins (terms_of ap an) (terms_of bp bn))
         (λ l. AllSettled (least_joins (terms_of ap an) (terms_of bp bn)) l ap an bp bn) s₀ c₀.listed s kept
-        (To (record { listed = t.listed; kept = t.kept; cost = cost }))
+        (Some (record { listed = t.listed; kept = t.kept; cost = cost }))
     pairs_end cost k = (
       h.grew,
       h.keeps,

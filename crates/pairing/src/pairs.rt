@@ -8,7 +8,7 @@ ghost use Rattle.settling.specs.Growth.{Growing, Grown};
 ghost use Rattle.pairing.specs.Pairs.{Paired, Turns};
 ghost use Rattle.settling.specs.Sides.{least_joins, AllSettled};
 
-use settling::counts::{Counts, Growth};
+use settling::counts::Counts;
 use settling::rows::{Row, settle_row};
 
 // The first row of a side that is not settled, what the last one cost, and whether the side's columns are made.
@@ -28,27 +28,12 @@ pub struct Turn {
     pub high: Side,
 }
 
-#[derive(Clone, Copy)]
-pub enum Turned {
-    Next(Turn),
-    Over,
-}
-
-// A cost that can be multiplied by a number of rows.
-fn bounded(cost: usize) -> usize
-    ensures { result ≤ max_cost }
-{
-    if cost < hints::MAX_COST {
-        return cost;
-    }
-    hints::MAX_COST
-}
-
-// The rows that are left, m on the low side and n on the high one, cost less on the low side.
+// The rows that are left, m on the low side and n on the high one, cost less on the low side. Costs are bounded, so that they can be
+// multiplied by a number of rows.
 fn goes_low(low: Side, high: Side, m: usize, n: usize) -> bool
     requires { (m ≤ max_capacity) × (n ≤ max_capacity) }
 {
-    bounded(low.cost) * m <= bounded(high.cost) * n
+    low.cost.min(hints::MAX_COST) * m <= high.cost.min(hints::MAX_COST) * n
 }
 
 // The side after its next row, which cost so much.
@@ -59,7 +44,7 @@ fn moved(side: Side, cost: usize) -> Side
     Side {
         at: side.at + 1,
         cost,
-        made: side.made,
+        ..side
     }
 }
 
@@ -68,13 +53,12 @@ fn met(side: Side, cost: usize) -> Side
     ensures { result.at ≡ side.at }
 {
     Side {
-        at: side.at,
-        cost: side.cost,
         made: side.made | (cost > 0),
+        ..side
     }
 }
 
-// Settles the next row of the low side.
+// Settles the next row of the low side. Where the sides stand then; none where there are more terms than the slices have entries.
 fn step_low(
     positives: &mut [u64],
     negatives: &mut [u64],
@@ -86,7 +70,7 @@ fn step_low(
     bp: &[u64],
     bn: &[u64],
     turn: Turn,
-) -> Turned
+) -> Option<Turn>
     requires paired { Paired ap.now an.now bp.now bn.now (by_sign positives.old negatives.old) kept.old turn }
     requires has_halves { HasHalves (length ap.now) (length bp.now) columns.old }
     ensures { Turns ap.now an.now bp.now bn.now
@@ -111,7 +95,7 @@ fn step_low(
     };
     let half = hints.len() / 2;
     let middle = columns.len() / 2;
-    let Growth::To(c) = settle_row(
+    let c = settle_row(
         positives,
         negatives,
         kept,
@@ -122,10 +106,8 @@ fn step_low(
         bp,
         bn,
         row,
-    ) else {
-        return Turned::Over;
-    };
-    Turned::Next(Turn {
+    )?;
+    Some(Turn {
         listed: c.listed,
         kept: c.kept,
         low: moved(low, c.cost),
@@ -145,7 +127,7 @@ fn step_high(
     bp: &[u64],
     bn: &[u64],
     turn: Turn,
-) -> Turned
+) -> Option<Turn>
     requires paired { Paired ap.now an.now bp.now bn.now (by_sign positives.old negatives.old) kept.old turn }
     requires has_halves { HasHalves (length ap.now) (length bp.now) columns.old }
     ensures { Turns ap.now an.now bp.now bn.now
@@ -170,7 +152,7 @@ fn step_high(
         made: low.made,
         hint,
     };
-    let Growth::To(c) = settle_row(
+    let c = settle_row(
         positives,
         negatives,
         kept,
@@ -181,10 +163,8 @@ fn step_high(
         ap,
         an,
         row,
-    ) else {
-        return Turned::Over;
-    };
-    Turned::Next(Turn {
+    )?;
+    Some(Turn {
         listed: c.listed,
         kept: c.kept,
         low: met(low, c.cost),
@@ -217,7 +197,7 @@ fn step(
     bp: &[u64],
     bn: &[u64],
     turn: Turn,
-) -> Turned
+) -> Option<Turn>
     requires paired { Paired ap.now an.now bp.now bn.now (by_sign positives.old negatives.old) kept.old turn }
     requires has_halves { HasHalves (length ap.now) (length bp.now) columns.old }
     ensures { Turns ap.now an.now bp.now bn.now
@@ -250,7 +230,7 @@ pub fn join_all(
     bp: &[u64],
     bn: &[u64],
     start: Counts,
-) -> Growth
+) -> Option<Counts>
     requires growing { Growing ap.now an.now bp.now bn.now (by_sign positives.old negatives.old) kept.old start }
     requires has_halves { HasHalves (length ap.now) (length bp.now) columns.old }
     ensures { Grown (least_joins (terms_of ap.now an.now) (terms_of bp.now bn.now))
@@ -271,18 +251,12 @@ pub fn join_all(
         low: first,
         high: first,
     };
-    while turn.low.at < ap.len() {
-        if turn.high.at >= bp.len() {
-            break;
-        }
-        let Turned::Next(next) = step(
+    while turn.low.at < ap.len() && turn.high.at < bp.len() {
+        turn = step(
             positives, negatives, kept, hints, columns, ap, an, bp, bn, turn,
-        ) else {
-            return Growth::Over;
-        };
-        turn = next;
+        )?;
     }
-    Growth::To(Counts {
+    Some(Counts {
         listed: turn.listed,
         kept: turn.kept,
         cost: 0,

@@ -3,6 +3,7 @@ use Prim.Native.Nat.{ℕ}
 use mathlib.Core.Path.{◌≡◌, sym, subst}
 use mathlib.Core.Bool.{Bool, true, false}
 use mathlib.Core.List.{List, []}
+use Rattle.std.specs.Prelude.{Option}
 use Rattle.terms.specs.Joins.{conjunction_terms}
 use Rattle.terms.specs.Lists.{sort}
 use Rattle.terms.specs.Order.{before}
@@ -10,7 +11,6 @@ use Rattle.terms.specs.Term.{terms_of}
 use Rattle.terms.specs.declared.Term.{Term}
 use Rattle.lists.specs.List.{by_sign}
 use Rattle.insertion.specs.Filled.{Filled}
-use Rattle.insertion.specs.declared.Kept.{Kept}
 use Rattle.nodes.proofs.Both.{both-made, in_order}
 use Rattle.nodes.proofs.conjoin.Goals as goal
 use Rattle.nodes.proofs.conjoin.Lts as lts
@@ -27,13 +27,13 @@ After-shared_slice_known4 = lts.After-shared_slice_known4 tie.the-claims reads.P
 abbrev slices : Start → Bool → List ℕ
 slices s = by_sign s.args.positives.now s.args.negatives.now
 
-abbrev Made : Start → Bool → (Bool → List ℕ) → Kept → Type 0
+abbrev Made : Start → Bool → (Bool → List ℕ) → Option ℕ → Type 0
 Made s c s' k =
     let x = s.args in
     Filled (sort (before []) (conjunction_terms c (terms_of x.ap.now x.an.now) (terms_of x.bp.now x.bn.now))) (slices s) s' k
 
 -- what is made for the sign that it is
-made : (s : Start) (c : Bool) (s' : Bool → List ℕ) (k : Kept) → s.args.sign ≡ c → Made s c s' k → Made s s.args.sign s' k
+made : (s : Start) (c : Bool) (s' : Bool → List ℕ) (k : Option ℕ) → s.args.sign ≡ c → Made s c s' k → Made s s.args.sign s' k
 made s c s' k e h = subst (λ (z : Bool). Made s z s' k) (sym e) h
 
 abbrev start : After-shared_slice_known4 → Start

@@ -3,10 +3,10 @@ use Prim.Native.Nat.{ℕ, zero-le}
 use mathlib.Core.Path.{sym, subst}
 use mathlib.Core.Bool.{Bool, cond}
 use mathlib.Core.List.{List, [], ◌∷◌}
+use Rattle.std.specs.Prelude.{Some}
 use Rattle.terms.specs.Term.{empty}
 use Rattle.lists.specs.List.{by_sign}
 use Rattle.insertion.specs.Filled.{Filled}
-use Rattle.insertion.specs.declared.Kept.TheVariants.{Count}
 use Rattle.insertion.proofs.Parts.{even, filled_none}
 use Rattle.nodes.proofs.constant.Goals as goal
 use Rattle.nodes.proofs.constant.Lts as lts
@@ -28,5 +28,5 @@ pub returns : goal.returns
 returns c =
     let s = c.before.before.before in
     let x = s.args in
-    subst (λ (b : Bool). Filled (cond b (empty ∷ []) []) (slices s.before) (slices s.before) (Count 0)) (sym c.if-value.false)
+    subst (λ (b : Bool). Filled (cond b (empty ∷ []) []) (slices s.before) (slices s.before) (Some 0)) (sym c.if-value.false)
     (filled_none (slices s.before) (even x.positives.now x.negatives.now s.requires) 0 zero-le)

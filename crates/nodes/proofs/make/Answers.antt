@@ -3,13 +3,12 @@ use Prim.Native.Nat.{ℕ, zero-le}
 use mathlib.Core.Path.{◌≡◌, sym, subst}
 use mathlib.Core.Bool.{Bool, cond}
 use mathlib.Core.List.{List, [], ◌∷◌}
+use Rattle.std.specs.Prelude.{Option, Some}
 use Rattle.table.specs.declared.gates.Gate.{Gate}
 use Rattle.table.specs.declared.gates.Gate.TheVariants.{Constant, Literal, Decision, Conjunction, Unknown}
 use Rattle.terms.specs.Term.{empty, extend, terms_of}
 use Rattle.lists.specs.List.{by_sign}
 use Rattle.insertion.specs.Filled.{Filled}
-use Rattle.insertion.specs.declared.Kept.{Kept}
-use Rattle.insertion.specs.declared.Kept.TheVariants.{Count}
 use Rattle.insertion.proofs.Parts.{even, filled_none}
 use Rattle.nodes.specs.Part.{Given, gate_made}
 use Rattle.nodes.proofs.make.Goals as goal
@@ -27,13 +26,13 @@ After-shared_slice_known4 = lts.After-shared_slice_known4 tie.the-claims reads.P
 abbrev slices : Start → Bool → List ℕ
 slices s = by_sign s.args.positives.now s.args.negatives.now
 
-abbrev Made : Start → Gate → (Bool → List ℕ) → Kept → Type 0
+abbrev Made : Start → Gate → (Bool → List ℕ) → Option ℕ → Type 0
 Made s g s' k =
     let x = s.args in
     Filled (gate_made x.sign g (terms_of x.ap.now x.an.now) (terms_of x.bp.now x.bn.now)) (slices s) s' k
 
 -- what is made for the gate that it is
-made : (s : Start) (g : Gate) (s' : Bool → List ℕ) (k : Kept) → s.args.gate ≡ g → Made s g s' k → Made s s.args.gate s' k
+made : (s : Start) (g : Gate) (s' : Bool → List ℕ) (k : Option ℕ) → s.args.gate ≡ g → Made s g s' k → Made s s.args.gate s' k
 made s g s' k e h = subst (λ (z : Gate). Made s z s' k) (sym e) h
 
 -- what is given for it
@@ -106,5 +105,5 @@ pub returns-in-Unknown : goal.returns-in-Unknown
 returns-in-Unknown c =
     let s = start c.before.before in
     let x = s.args in
-    made s Unknown (slices s) (Count 0) c.in-Unknown.is
+    made s Unknown (slices s) (Some 0) c.in-Unknown.is
     (filled_none (slices s) (even x.positives.now x.negatives.now s.requires.negatives_len.0) 0 zero-le)

@@ -1,58 +1,46 @@
 -- `decisions::side::list_one` meets its contract.
 use mathlib.Core.Path.{◌≡◌, ap, subst, ◌∙◌}
 use mathlib.Core.Bool.{Bool}
-use mathlib.Core.List.{List, []}
+use mathlib.Core.List.{List}
 use Prim.Native.Nat.{ℕ}
-use Rattle.terms.specs.Lists.{insert}
-use Rattle.terms.specs.Order.{before}
 use Rattle.terms.specs.Term.{extend}
 use Rattle.terms.specs.declared.Term.{Term}
 use Rattle.lists.specs.Entries.{term_at}
-use Rattle.lists.specs.List.{by_sign, held}
-use Rattle.insertion.specs.Filled.{Filled}
+use Rattle.lists.specs.List.{by_sign}
 use Rattle.subsumption.specs.Ahead.{FoundInside}
-use Rattle.subsumption.specs.declared.Found.{Found}
 use Rattle.settling.specs.Growth.{Keeps}
 use Rattle.decisions.proofs.OneSide.{one_kept, one-extended, one-over}
 use Rattle.decisions.proofs.side.list_one.Goals as goal
+use Rattle.decisions.proofs.side.list_one.Goals.{After-extend-u}
 
-pub returns-in_default : goal.returns-in_default
-returns-in_default c =
-    let x = c.args in
-    let slices : Bool → List ℕ = by_sign x.positives.now x.negatives.now in
-    let looked : Found → Type 0 = FoundInside x.bp.now x.bn.now (term_at x.ap.now x.an.now x.one.at) in
-    let then : Bool → List ℕ = by_sign c.insert.new.positives c.insert.new.negatives in
-    -- the term with the literal
-    let wide : Term = c.extend-u.result in
-    let made : wide ≡ extend (term_at x.ap.now x.an.now x.one.at) x.literal.variable x.literal.sign =
-    c.extend-u.ensures ∙ ap (λ (t : Term). extend t x.literal.variable x.literal.sign) c.term_at-t.ensures in
-    let told = subst (Filled (insert (before []) wide (held slices x.counts.listed)) slices then) c.in_default.is c.insert.ensures in
-    let none = subst looked c.in-Nowhere.is c.requires.at_in_bounds.1 in
-    one-over c.requires.extending x.literal.sign x.one.at c.requires.at_in_bounds.0 none then wide made
-    told
+-- the term with the literal
+wide : (c : After-extend-u) → let x = c.args in
+    c.extend-u.result ≡ extend (term_at x.ap.now x.an.now x.one.at) x.literal.variable x.literal.sign
+wide c = c.extend-u.ensures ∙ ap (λ (t : Term). extend t c.args.literal.variable c.args.literal.sign) c.term_at-t.ensures
 
-pub returns-in-At : goal.returns-in-At
-returns-in-At c =
+pub returns-in_err-listed-in-None : goal.returns-in_err-listed-in-None
+returns-in_err-listed-in-None c =
     let x = c.args in
-    let slices : Bool → List ℕ = by_sign x.positives.now x.negatives.now in
-    let looked : Found → Type 0 = FoundInside x.bp.now x.bn.now (term_at x.ap.now x.an.now x.one.at) in
+    let none = subst (FoundInside x.bp.now x.bn.now (term_at x.ap.now x.an.now x.one.at)) c.in-None.is c.requires.at_in_bounds.1 in
+    rw c.from_residual.ensures
+    (one-over c.requires.extending x.literal.sign x.one.at c.requires.at_in_bounds.0 none
+    (by_sign c.insert.new.positives c.insert.new.negatives) c.extend-u.result (wide
+    (goal.at.returns-in_err-listed-in-None c).After-extend-u)
+    c.in_err-listed-in-None.ensures)
+
+pub returns-in-Some : goal.returns-in-Some
+returns-in-Some c =
+    let x = c.args in
     let s' : Bool → List ℕ = by_sign c.keep.new.positives c.keep.new.negatives in
-    let found = subst looked c.in-At.is c.requires.at_in_bounds.1 in
+    let found = subst (FoundInside x.bp.now x.bn.now (term_at x.ap.now x.an.now x.one.at)) c.in-Some.is c.requires.at_in_bounds.1 in
     one_kept c.requires.extending x.literal.sign x.one.at c.requires.at_in_bounds.0 s' c.keep.new.kept c.keep.result _ found
-    (subst (λ (t : Term). Keeps t slices x.kept.now x.counts s' c.keep.new.kept c.keep.result)
+    (subst (λ (t : Term). Keeps t (by_sign x.positives.now x.negatives.now) x.kept.now x.counts s' c.keep.new.kept c.keep.result)
     c.term_at-t.ensures c.keep.ensures)
 
-pub returns-in-Count : goal.returns-in-Count
-returns-in-Count c =
+pub returns-in_ok-listed-in-None : goal.returns-in_ok-listed-in-None
+returns-in_ok-listed-in-None c =
     let x = c.args in
-    let slices : Bool → List ℕ = by_sign x.positives.now x.negatives.now in
-    let looked : Found → Type 0 = FoundInside x.bp.now x.bn.now (term_at x.ap.now x.an.now x.one.at) in
-    let then : Bool → List ℕ = by_sign c.insert.new.positives c.insert.new.negatives in
-    -- the term with the literal
-    let wide : Term = c.extend-u.result in
-    let made : wide ≡ extend (term_at x.ap.now x.an.now x.one.at) x.literal.variable x.literal.sign =
-    c.extend-u.ensures ∙ ap (λ (t : Term). extend t x.literal.variable x.literal.sign) c.term_at-t.ensures in
-    let told = subst (Filled (insert (before []) wide (held slices x.counts.listed)) slices then) c.in-Count.is c.insert.ensures in
-    let none = subst looked c.in-Nowhere.is c.requires.at_in_bounds.1 in
-    one-extended c.requires.extending x.literal.sign x.one.at c.requires.at_in_bounds.0 none then wide
-    c.in-Count.c x.counts.cost made told
+    let none = subst (FoundInside x.bp.now x.bn.now (term_at x.ap.now x.an.now x.one.at)) c.in-None.is c.requires.at_in_bounds.1 in
+    one-extended c.requires.extending x.literal.sign x.one.at c.requires.at_in_bounds.0 none
+    (by_sign c.insert.new.positives c.insert.new.negatives) c.extend-u.result c.in_ok-listed-in-None.listed x.counts.cost
+    (wide (goal.at.returns-in_ok-listed-in-None c).After-extend-u) c.in_ok-listed-in-None.ensures

@@ -1,22 +1,16 @@
-use mathlib.Core.Path.{refl, sym, subst, ◌∙◌}
-use mathlib.Core.Bool.{true, false}
+use mathlib.Core.Path.{sym, subst}
 use native.Mathlib.Omega.{arith}
-use Rattle.terms.specs.Term.{IsTerm, terms_of}
+use Rattle.terms.specs.Term.{IsTerm}
 use Rattle.terms.specs.declared.Term.{Term}
-use Rattle.lists.specs.Entries.{term_at}
-use Rattle.lists.specs.List.{by_sign}
 use Rattle.subsumption.specs.Ahead.{FoundInside}
-use Rattle.decisions.specs.Extended.{side_terms, ListsOne}
-use Rattle.settling.specs.Growth.{Grown}
-use Rattle.settling.specs.Sides.{least_joins}
 use Rattle.settling.proofs.Down.{low-in}
 use Rattle.settling.proofs.Least.{low-terms, high-terms}
-use Rattle.decisions.proofs.OneSide.{side-start, side-length, side-extending, side-next, side-over, side-end}
+use Rattle.decisions.proofs.OneSide.{side-start, side-extending, side-next, side-over, side-end}
 use Rattle.decisions.proofs.side.list_side.Goals as goal
 
 pub loop-k-init : goal.loop-k-init
 loop-k-init c =
-    (side-start c.requires c.args.literal.sign, omega arith, refl, refl)
+    (side-start c.requires c.args.literal.sign, omega arith)
 
 pub term_at-t-requires : goal.term_at-t-requires
 term_at-t-requires c = let h = c.requires.growing.at in omega (arith, c.loop-k-test.true, h.even-low)
@@ -54,67 +48,14 @@ list_one-requires c =
       );
     }
 
-pub shape_of-positives-in_default : goal.shape_of-positives-in_default
-shape_of-positives-in_default c = c.list_one.auto.positives ∙ side-length c.requires c.args.literal.sign c.loop-k.invariant.0 true
-
-pub shape_of-negatives-in_default : goal.shape_of-negatives-in_default
-shape_of-negatives-in_default c =
-    c.list_one.auto.negatives ∙ side-length c.requires c.args.literal.sign c.loop-k.invariant.0 false
-
-pub shape_of-kept-in_default : goal.shape_of-kept-in_default
-shape_of-kept-in_default c =
-    c.list_one.auto.kept ∙ c.loop-k.invariant.3
-
-pub shape_of-hints-in_default : goal.shape_of-hints-in_default
-shape_of-hints-in_default c = c.loop-k.invariant.2
-
-pub returns-in_default : goal.returns-in_default
-returns-in_default c =
-    let x = c.args in
-    -- what became of the term
-    let told = subst
-    (Grown (side_terms x.literal.variable x.literal.sign (terms_of x.ap.now x.an.now) (terms_of x.bp.now x.bn.now))
-    (least_joins (terms_of x.ap.now x.an.now) (terms_of x.bp.now x.bn.now))
-    (ListsOne x.literal.variable x.literal.sign (terms_of x.bp.now x.bn.now) (term_at x.ap.now x.an.now c.loop-k.k))
-    (by_sign c.loop-k.positives c.loop-k.negatives) c.loop-k.counts.listed
-    (by_sign c.list_one.new.positives c.list_one.new.negatives) c.list_one.new.kept) c.in_default.is c.list_one.ensures in
-    side-over c.requires c.args.literal.sign c.loop-k.invariant.0 told
-
-pub overflow_add-k : goal.overflow_add-k
-overflow_add-k c =
-    omega (arith, c.loop-k-test.true, c.requires.growing.at.few-low)
-
-pub loop-k-smaller : goal.loop-k-smaller
-loop-k-smaller c = omega (arith, c.loop-k-test.true)
+pub returns-in_err-next : goal.returns-in_err-next
+returns-in_err-next c =
+    rw c.from_residual.ensures (side-over c.requires c.args.literal.sign c.loop-k.invariant.0 c.in_err-next.ensures)
 
 pub loop-k-preserved : goal.loop-k-preserved
 loop-k-preserved c =
-    let x = c.args in
-    -- what became of the term
-    let told = subst
-    (Grown (side_terms x.literal.variable x.literal.sign (terms_of x.ap.now x.an.now) (terms_of x.bp.now x.bn.now))
-    (least_joins (terms_of x.ap.now x.an.now) (terms_of x.bp.now x.bn.now))
-    (ListsOne x.literal.variable x.literal.sign (terms_of x.bp.now x.bn.now) (term_at x.ap.now x.an.now c.loop-k.k))
-    (by_sign c.loop-k.positives c.loop-k.negatives) c.loop-k.counts.listed
-    (by_sign c.list_one.new.positives c.list_one.new.negatives) c.list_one.new.kept) c.in-To.is c.list_one.ensures in
-    let t = told in (
-      side-next c.requires c.args.literal.sign c.loop-k.invariant.0 t.0 t.1 t.2 t.3,
-      c.end_ahead-end.ensures.1,
-      c.set_hint.auto.hints ∙ c.loop-k.invariant.2,
-      c.list_one.auto.kept ∙ c.loop-k.invariant.3,
-    )
-
-pub shape_of-positives : goal.shape_of-positives
-shape_of-positives c = side-length c.requires c.args.literal.sign c.loop-k.invariant.0 true
-
-pub shape_of-negatives : goal.shape_of-negatives
-shape_of-negatives c = side-length c.requires c.args.literal.sign c.loop-k.invariant.0 false
-
-pub shape_of-kept : goal.shape_of-kept
-shape_of-kept c = c.loop-k.invariant.3
-
-pub shape_of-hints : goal.shape_of-hints
-shape_of-hints c = c.loop-k.invariant.2
+    let g = c.in_ok-next.ensures in
+    (side-next c.requires c.args.literal.sign c.loop-k.invariant.0 g.0 g.1 g.2 g.3, c.end_ahead-end.ensures.1)
 
 pub returns : goal.returns
 returns c = side-end c.requires c.args.literal.sign c.loop-k.invariant.0 c.loop-k-test.false

@@ -1,6 +1,5 @@
 -- `decisions::side::list_side` meets its contract. The invariant: the terms of the side up to k are listed.
-use Prim.Native.Nat.{◌-◌, ◌≤◌}
-use mathlib.Core.Path.{◌≡◌}
+use Prim.Native.Nat.{◌≤◌}
 use lib.ListN.{length}
 use Rattle.lists.specs.List.{by_sign}
 use Rattle.decisions.proofs.OneSide.{SideDone}
@@ -9,10 +8,5 @@ use Rattle.decisions.proofs.side.list_side.Given as goal
 abbrev pub invariant-loop-k : goal.invariant-loop-k
 invariant-loop-k l =
     SideDone l.literal.variable l.literal.sign l.ap l.an l.bp l.bn (by_sign l.initial.positives l.initial.negatives)
-    l.initial.counts.listed (by_sign l.positives l.negatives)
-    l.kept l.counts l.k
-    × (l.end ≤ length l.bp) × (length l.hints ≡ length l.initial.hints) × (length l.kept ≡ length l.initial.kept)
-
-abbrev pub decreases-loop-k : goal.decreases-loop-k
-decreases-loop-k l =
-    length l.ap - l.k
+    l.initial.counts.listed (by_sign l.positives l.negatives) l.kept l.counts l.k
+    × (l.end ≤ length l.bp)

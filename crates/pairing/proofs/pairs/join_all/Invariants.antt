@@ -1,6 +1,5 @@
 -- `pairing::pairs::join_all` meets its contract. The invariant: the pairs of the rows before the next of each side are settled.
 use Prim.Native.Nat.{◌+◌, ◌-◌}
-use mathlib.Core.Path.{◌≡◌}
 use lib.ListN.{length}
 use Rattle.lists.specs.List.{by_sign}
 use Rattle.pairing.proofs.Steps.{PairsDone}
@@ -10,7 +9,6 @@ abbrev pub invariant-loop-turn : goal.invariant-loop-turn
 invariant-loop-turn l =
     PairsDone l.ap l.an l.bp l.bn (by_sign l.initial.positives l.initial.negatives)
     l.initial.turn.listed (by_sign l.positives l.negatives) l.kept l.turn
-    × (length l.kept ≡ length l.initial.kept) × (length l.hints ≡ length l.initial.hints) × (length l.columns ≡ length l.initial.columns)
 
 abbrev pub decreases-loop-turn : goal.decreases-loop-turn
 decreases-loop-turn l =

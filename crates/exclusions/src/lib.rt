@@ -2,13 +2,13 @@
 // variable, so that the test of a term does not depend on how many pairs there are.
 #![tactic(auto)]
 
-ghost use Rattle.std.specs.Prelude.{◌≡◌, true, not, ◌^◌, ◌<◌, ◌≤◌, length, replicate};
-ghost use Rattle.terms.specs.Term.{terms_of};
-ghost use Rattle.lists.specs.List.{by_sign};
+ghost use Rattle.std.specs.Prelude.{◌≡◌, Bool, true, not, ◌^◌, ◌<◌, ◌≤◌, length, replicate};
+ghost use Rattle.lists.specs.List.{slots, terms_in};
 ghost use Rattle.exclusions.specs.Exclusions.{exclusions, distinct, proper, respects, Exclusions};
 ghost use Rattle.exclusions.specs.Partners.{Folded, Filtered};
 
 use masks::{is_disjoint, lowest_bit, with_bit, without_bit};
+use lists::list::{TermBuffer, TermList};
 use terms::Term;
 
 // Two different variables below the number of variables.
@@ -66,27 +66,19 @@ fn violates(partners: &[u64], heads: u64, t: Term) -> bool
 }
 
 // Copies the terms of a list that respect the pairs, in their order, to the front of slices of zeros: how many they are.
-pub fn filter(
-    positives: &mut [u64],
-    negatives: &mut [u64],
-    lp: &[u64],
-    ln: &[u64],
-    partners: &[u64],
-    heads: u64,
-) -> usize
-    requires ln_len { (length ln.now ≡ length lp.now) × (length lp.now ≤ length positives.old)
+pub fn filter(kept: &mut TermBuffer, list: TermList, partners: &[u64], heads: u64) -> usize
+    requires room { (length list.positives.now ≤ length kept.old.positives.now)
         × (heads < 2 ^ length partners.now) × (length partners.now ≤ 64) }
-    requires positives_value { (positives.old ≡ replicate (length positives.old) 0) × (negatives.old ≡ replicate (length positives.old) 0) }
+    requires zeros { (b : Bool) → slots kept.old b ≡ replicate (length kept.old.positives.now) 0 }
     ensures { (e : Exclusions) → Folded e (length e.firsts) partners.now heads
-        → Filtered e (terms_of lp.now ln.now) (length positives.old)
-        (by_sign positives.new negatives.new) result }
+        → Filtered e (terms_in list.entry) (length kept.old.positives.now) (slots kept.new) result }
 {
     let mut count = 0;
-    for k in 0..lp.len() {
-        let t = lists::term_at(lp, ln, k);
+    for k in 0..list.len() {
+        let t = list.at(k);
         if !violates(partners, heads, t) {
-            positives[count] = t.positive;
-            negatives[count] = t.negative;
+            kept.positives[count] = t.positive;
+            kept.negatives[count] = t.negative;
             count += 1;
         }
     }

@@ -3,52 +3,39 @@ use mathlib.Core.Path.{◌≡◌, sym, ap, ◌∙◌}
 use mathlib.Core.Bool.{Bool, true, false}
 use mathlib.Core.List.{List, ◌∷◌}
 use native.Mathlib.Omega.{arith}
-use lib.ListN.{length, drop, set, replicate, length-replicate}
+use lib.ListN.{length, drop, set}
 use Rattle.masks.proofs.Tests.{was-true, was-false, either}
-use Rattle.terms.specs.Term.{mask, terms_of}
+use Rattle.terms.specs.Term.{mask}
 use Rattle.terms.specs.declared.Term.{Term}
 use Rattle.lists.proofs.Parts.{drop-terms, drop-end}
-use Rattle.lists.specs.List.{by_sign}
+use Rattle.lists.specs.List.{slots, terms_in}
 use Rattle.exclusions.specs.Exclusions.{respects, Exclusions}
 use Rattle.exclusions.specs.Partners.{Folded}
 use Rattle.exclusions.proofs.Filtering.{filtering-start, filtering-end, filtering-skip, filtering-keep}
 use Rattle.exclusions.proofs.filter.Goals as goal
 use Rattle.exclusions.proofs.filter.Goals.{then-not-violates, else-not-violates}
-use Rattle.exclusions.proofs.filter.Goals.{Start, After-violates}
-
--- at the start both slices are zeros, one for each entry of the first
-zeros : (s : Start) (b : Bool)
-    → by_sign s.args.positives.now s.args.negatives.now b ≡ replicate (length s.args.positives.now) 0
-zeros s true = s.requires.positives_value.0
-zeros s false = s.requires.positives_value.1
-
-level : (s : Start) → length s.args.negatives.now ≡ length s.args.positives.now
-level s = ap length (zeros s false) ∙ length-replicate (length s.args.positives.now) 0
+use Rattle.exclusions.proofs.filter.Goals.{After-violates}
 
 pub loop-k-init : goal.loop-k-init
 loop-k-init c =
     let x = c.args in (
       omega arith,
       λ e f.
-          filtering-start e (terms_of x.lp.now x.ln.now) (length x.positives.now)
-          (by_sign x.positives.now x.negatives.now) (zeros (goal.at.loop-k-init c).Start),
+          filtering-start e (terms_in x.list) (length x.kept.now.positives.now) (slots x.kept.now) c.requires.zeros,
     )
-
-pub bounds-negatives-count : goal.bounds-negatives-count
-bounds-negatives-count c = omega (arith, level (goal.at.bounds-negatives-count c).Start)
 
 -- the term of a turn, which is the first of what is left
 module _ (c : After-violates) where
   abbrev list : List Term
-  list = terms_of c.args.lp.now c.args.ln.now
+  list = terms_in c.args.list
 
   abbrev own : Term
-  own = c.term_at-t.result
+  own = c.at-t.result
 
   first : drop c.loop-k.k list ≡ own ∷ drop (c.loop-k.k + 1) list
   first =
-      drop-terms c.args.lp.now c.args.ln.now c.requires.ln_len.0 c.loop-k.k (omega arith)
-      ∙ ap (λ (t : Term). t ∷ drop (c.loop-k.k + 1) list) (sym c.term_at-t.ensures)
+      drop-terms c.args.list.positives.now c.args.list.negatives.now c.args.list.same_length c.loop-k.k (omega arith)
+      ∙ ap (λ (t : Term). t ∷ drop (c.loop-k.k + 1) list) (sym c.at-t.ensures)
 
   -- what the test says
   module _ (e : Exclusions) (f : Folded e (length e.firsts) c.args.partners.now c.args.heads) where
@@ -62,22 +49,22 @@ pub loop-k-preserved : goal.loop-k-preserved
 loop-k-preserved c =
     let d = (goal.at.loop-k-preserved c).After-violates in
     let l = c.loop-k in
-    let s : Bool → List ℕ = by_sign l.positives l.negatives in
-    let s' : Bool → List ℕ = by_sign c.if-not-violates.positives c.if-not-violates.negatives in
+    let s : Bool → List ℕ = slots l.kept in
+    let s' : Bool → List ℕ = slots c.if-not-violates.kept in
     elim c.if-not-violates.branch [
       | then-not-violates w ↦ (
         omega arith,
         λ e f.
-            filtering-keep e (list d) (length c.args.positives.now) s l.count (own d) (first d) (l.invariant.1 e f) s'
+            filtering-keep e (list d) (length c.args.kept.now.positives.now) s l.count (own d) (first d) (l.invariant.1 e f) s'
             c.if-not-violates.count (passes d e f w.if-not-violates.true) (omega arith)
-            (either (λ b. s' b ≡ set (s b) l.count (mask (own d) b)) true w.positives-is w.negatives-is) w.count-is,
+            (either (λ b. s' b ≡ set (s b) l.count (mask (own d) b)) true (ap (λ z. z.positives.now) w.kept-is) (ap (λ z. z.negatives.now) w.kept-is)) w.count-is,
       )
       | else-not-violates w ↦ (
         omega arith,
         λ e f.
-            filtering-skip e (list d) (length c.args.positives.now) s l.count (own d) (first d) (l.invariant.1 e f) s'
+            filtering-skip e (list d) (length c.args.kept.now.positives.now) s l.count (own d) (first d) (l.invariant.1 e f) s'
             c.if-not-violates.count (fails d e f w.if-not-violates.false)
-            (either (λ b. s' b ≡ s b) true w.positives-is w.negatives-is) w.count-is,
+            (either (λ b. s' b ≡ s b) true (ap (λ z. z.positives.now) w.kept-is) (ap (λ z. z.negatives.now) w.kept-is)) w.count-is,
       )
     ]
 
@@ -85,5 +72,5 @@ pub returns : goal.returns
 returns c e f =
     let l = c.loop-k in
     let x = c.args in
-    filtering-end e (terms_of x.lp.now x.ln.now) (length x.positives.now) (by_sign l.positives l.negatives) l.count
-    (drop-end x.lp.now x.ln.now c.requires.ln_len.0 l.k (omega arith)) (l.invariant.1 e f)
+    filtering-end e (terms_in x.list) (length x.kept.now.positives.now) (slots l.kept) l.count
+    (drop-end x.list.positives.now x.list.negatives.now x.list.same_length l.k (omega arith)) (l.invariant.1 e f)

@@ -1,8 +1,7 @@
 -- `exclusions::filter` meets its contract. The loop's invariant: the list is filtered up to term k.
 use Prim.Native.Nat.{◌≤◌}
 use lib.ListN.{length, drop}
-use Rattle.terms.specs.Term.{terms_of}
-use Rattle.lists.specs.List.{by_sign}
+use Rattle.lists.specs.List.{slots, terms_in}
 use Rattle.exclusions.specs.Exclusions.{Exclusions}
 use Rattle.exclusions.specs.Partners.{Folded}
 use Rattle.exclusions.proofs.Filtering.{Filtering}
@@ -12,5 +11,4 @@ abbrev pub invariant-loop-k : goal.invariant-loop-k
 invariant-loop-k l =
     (l.count ≤ l.k)
     × ((e : Exclusions) → Folded e (length e.firsts) l.partners l.heads
-    → Filtering e (terms_of l.lp l.ln) (drop l.k (terms_of l.lp l.ln)) (length l.initial.positives) (by_sign l.positives
-    l.negatives) l.count)
+    → Filtering e (terms_in l.list) (drop l.k (terms_in l.list)) (length l.initial.kept.positives.now) (slots l.kept) l.count)

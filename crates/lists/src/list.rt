@@ -41,7 +41,19 @@ pub struct TermBuffer<'a> {
 }
 
 impl<'a> TermBuffer<'a> {
+    ghost use Rattle.lists.specs.Entries.{term_at};
     ghost use Rattle.lists.specs.List.{held, slots, terms_in};
+
+    // The term in entry k.
+    pub fn at(&self, k: usize) -> Term
+        requires { k < length self.now.positives.now }
+        ensures { result ≡ term_at self.now.positives.now self.now.negatives.now k }
+    {
+        Term {
+            positive: self.positives[k],
+            negative: self.negatives[k],
+        }
+    }
 
     // The list in the first count entries.
     pub fn front(&self, count: usize) -> TermList

@@ -13,17 +13,17 @@ use Rattle.masks.proofs.Tests.{along, is_true, is_false, below_suc}
 use Rattle.terms.specs.Joins.{holds_one, extended}
 use Rattle.terms.specs.Lists.{insert, keep}
 use Rattle.terms.specs.Order.{before}
-use Rattle.terms.specs.Term.{extend, inside, IsTerm, terms_of}
+use Rattle.terms.specs.Term.{extend, inside, IsTerm}
 use Rattle.terms.specs.declared.Term.{Term}
 use Rattle.terms.proofs.Sorted.{any-i, keep-in, keep_out, map-in, map-out}
 use Rattle.terms.proofs.Terms.{extend-IsTerm}
+use Rattle.lists.specs.List.{held, nth, terms_in}
+use Rattle.lists.specs.declared.list.TermList.{TermList}
 use Rattle.lists.specs.Capacity.{max_capacity}
-use Rattle.lists.specs.Entries.{term_at}
-use Rattle.lists.specs.List.{held}
 use Rattle.insertion.specs.Filled.{Filled}
 use Rattle.decisions.specs.Extended.{Extending, side_terms, ListsOne, ListsSide}
 use Rattle.settling.specs.Growth.{Grew, Overflow, Keeps, Grown}
-use Rattle.settling.specs.Sides.{least_joins, KeptIn}
+use Rattle.settling.specs.Sides.{least_between, KeptIn}
 use Rattle.settling.specs.declared.counts.Counts.{Counts}
 use Rattle.settling.proofs.Down.{low-in, high-in}
 use Rattle.settling.proofs.Growth.{grew_none, grew-length, grew-front, grew_then, grew-insert, over-then, over-insert}
@@ -31,55 +31,55 @@ use Rattle.settling.proofs.Grows.{kept-grown}
 use Rattle.settling.proofs.KeptTerms.{kept_more}
 use Rattle.settling.proofs.Least.{place_of, low-terms, least-terms, alone}
 
-module _ {x : ℕ} {ap an bp bn : List ℕ} {s : Bool → List ℕ} {kept : List ℕ} {c : Counts} (g : Extending x ap an bp bn s kept c)
+module _ {x : ℕ} {a b : TermList} {s : Bool → List ℕ} {kept : List ℕ} {c : Counts} (g : Extending x a b s kept c)
     (sign : Bool) where
   -- the terms that may be listed are terms
-  pub side-terms : (t : Term) → Memᴰ t (side_terms x sign (terms_of ap an) (terms_of bp bn)) → IsTerm g.growing.at.sides.variables t
+  pub side-terms : (t : Term) → Memᴰ t (side_terms x sign (terms_in a) (terms_in b)) → IsTerm g.growing.at.sides.variables t
   unfolding extended
   side-terms t m =
       ⊎_elim
-      (λ (n : Memᴰ t (extended x sign (terms_of bp bn) (terms_of ap an))).
-      let (u, k, e) = map-out (λ t. extend t x sign) (keep (λ t. not (holds_one (terms_of bp bn) t)) (terms_of ap an)) t n in
-      let (o, p) = keep_out (λ t. not (holds_one (terms_of bp bn) t)) (terms_of ap an) u k in
+      (λ (n : Memᴰ t (extended x sign (terms_in b) (terms_in a))).
+      let (u, k, e) = map-out (λ t. extend t x sign) (keep (λ t. not (holds_one (terms_in b) t)) (terms_in a)) t n in
+      let (o, p) = keep_out (λ t. not (holds_one (terms_in b) t)) (terms_in a) u k in
       subst (IsTerm g.growing.at.sides.variables) (sym e)
       (extend-IsTerm g.growing.at.sides.variables u x sign g.below (low-terms g.growing.at.sides u o) (g.free u o)))
-      (λ (n : Memᴰ t (least_joins (terms_of ap an) (terms_of bp bn))). least-terms g.growing.at.sides t n)
-      (mathlib.Core.List.Memᴰ.append_cases (extended x sign (terms_of bp bn) (terms_of ap an)) m)
+      (λ (n : Memᴰ t (least_between a b)). least-terms g.growing.at.sides t n)
+      (mathlib.Core.List.Memᴰ.append_cases (extended x sign (terms_in b) (terms_in a)) m)
 
-  module _ (i : ℕ) (l : i < length ap) where
+  module _ (i : ℕ) (l : i < length a.positives.now) where
     -- a term of the other side is inside it
     pub one_kept : (s' : Bool → List ℕ) (kept' : List ℕ) (r : Option Counts) (p : ℕ)
-        → (p < length bp) × (inside (term_at bp bn p) (term_at ap an i) ≡ true) → Keeps (term_at ap an i) s kept c s' kept' r
-        → Grown (side_terms x sign (terms_of ap an) (terms_of bp bn)) (least_joins (terms_of ap an) (terms_of bp bn))
-        (ListsOne x sign (terms_of bp bn) (term_at ap an i)) s c.listed s' kept' r
+        → (p < length b.positives.now) × (inside (nth b p) (nth a i) ≡ true) → Keeps (nth a i) s kept c s' kept' r
+        → Grown (side_terms x sign (terms_in a) (terms_in b)) (least_between a b)
+        (ListsOne x sign (terms_in b) (nth a i)) s c.listed s' kept' r
     one_kept s' kept' r p (lt, inner) k =
         let h = g.growing.at in
-        let one : T (holds_one (terms_of bp bn) (term_at ap an i)) =
-        any-i (λ u. inside u (term_at ap an i)) (terms_of bp bn) (term_at bp bn p) (high-in h p lt) (along (sym inner) tt) in
-        let n : Memᴰ (term_at ap an i) (least_joins (terms_of ap an) (terms_of bp bn)) =
-        alone h.sides (term_at ap an i) (low-in h i l) one in
-        kept-grown g.growing (side_terms x sign (terms_of ap an) (terms_of bp bn)) (term_at ap an i)
-        (mathlib.Core.List.Memᴰ.append_right (extended x sign (terms_of bp bn) (terms_of ap an)) n) n s' kept'
-        (ListsOne x sign (terms_of bp bn) (term_at ap an i)) r
-        (λ l m e. absurd (true≢false (sym (is_true (holds_one (terms_of bp bn) (term_at ap an i)) one) ∙ e))) k
+        let one : T (holds_one (terms_in b) (nth a i)) =
+        any-i (λ u. inside u (nth a i)) (terms_in b) (nth b p) (high-in h p lt) (along (sym inner) tt) in
+        let n : Memᴰ (nth a i) (least_between a b) =
+        alone h.sides (nth a i) (low-in h i l) one in
+        kept-grown g.growing (side_terms x sign (terms_in a) (terms_in b)) (nth a i)
+        (mathlib.Core.List.Memᴰ.append_right (extended x sign (terms_in b) (terms_in a)) n) n s' kept'
+        (ListsOne x sign (terms_in b) (nth a i)) r
+        (λ l m e. absurd (true≢false (sym (is_true (holds_one (terms_in b) (nth a i)) one) ∙ e))) k
 
     -- none is
-    module _ (none : holds_one (terms_of bp bn) (term_at ap an i) ≡ false) where
-      member : Memᴰ (extend (term_at ap an i) x sign) (side_terms x sign (terms_of ap an) (terms_of bp bn))
+    module _ (none : holds_one (terms_in b) (nth a i) ≡ false) where
+      member : Memᴰ (extend (nth a i) x sign) (side_terms x sign (terms_in a) (terms_in b))
       unfolding extended
       member =
-          mathlib.Core.List.Memᴰ.append_left (least_joins (terms_of ap an) (terms_of bp bn))
-          (map-in (λ t. extend t x sign) (keep (λ t. not (holds_one (terms_of bp bn) t)) (terms_of ap an)) (term_at ap an i)
-          (keep-in (λ t. not (holds_one (terms_of bp bn) t)) (terms_of ap an) (term_at ap an i) (low-in g.growing.at i l)
+          mathlib.Core.List.Memᴰ.append_left (least_between a b)
+          (map-in (λ t. extend t x sign) (keep (λ t. not (holds_one (terms_in b) t)) (terms_in a)) (nth a i)
+          (keep-in (λ t. not (holds_one (terms_in b) t)) (terms_in a) (nth a i) (low-in g.growing.at i l)
           (subst (λ (z : Bool). T (not z)) (sym none) tt)))
 
-      pub one-extended : (s' : Bool → List ℕ) (u : Term) (n cost : ℕ) → u ≡ extend (term_at ap an i) x sign
+      pub one-extended : (s' : Bool → List ℕ) (u : Term) (n cost : ℕ) → u ≡ extend (nth a i) x sign
           → Filled (insert (before []) u (held s c.listed)) s s' (Some n)
-          → Grown (side_terms x sign (terms_of ap an) (terms_of bp bn)) (least_joins (terms_of ap an) (terms_of bp bn))
-          (ListsOne x sign (terms_of bp bn) (term_at ap an i)) s c.listed s' kept
+          → Grown (side_terms x sign (terms_in a) (terms_in b)) (least_between a b)
+          (ListsOne x sign (terms_in b) (nth a i)) s c.listed s' kept
           (Some (record { listed = n; kept = c.kept; cost = cost }))
       one-extended s' u n cost e f =
-          let m = subst (λ (z : Term). Memᴰ z (side_terms x sign (terms_of ap an) (terms_of bp bn))) (sym e) member in
+          let m = subst (λ (z : Term). Memᴰ z (side_terms x sign (terms_in a) (terms_in b))) (sym e) member in
           let (grew, listed) = grew-insert g.growing.front u (side-terms u m) m f in (
             grew,
             kept_more g.growing.keeps grew.keeps,
@@ -87,24 +87,24 @@ module _ {x : ℕ} {ap an bp bn : List ℕ} {s : Bool → List ℕ} {kept : List
             λ _. subst (λ (z : Term). Memᴰ z (held s' n)) e listed,
           )
 
-      pub one-over : (s' : Bool → List ℕ) (u : Term) → u ≡ extend (term_at ap an i) x sign
+      pub one-over : (s' : Bool → List ℕ) (u : Term) → u ≡ extend (nth a i) x sign
           → Filled (insert (before []) u (held s c.listed)) s s' None
-          → Overflow (side_terms x sign (terms_of ap an) (terms_of bp bn)) s c.listed
+          → Overflow (side_terms x sign (terms_in a) (terms_in b)) s c.listed
       one-over s' u e f =
-          let m = subst (λ (z : Term). Memᴰ z (side_terms x sign (terms_of ap an) (terms_of bp bn))) (sym e) member in
+          let m = subst (λ (z : Term). Memᴰ z (side_terms x sign (terms_in a) (terms_in b))) (sym e) member in
           over-insert g.growing.front u (side-terms u m) m f
 
 -- ---- the terms of the side up to k are listed, by a list that was s₀
-pub record SideDone (x : ℕ) (sign : Bool) (ap an bp bn : List ℕ) (s₀ : Bool → List ℕ) (count₀ : ℕ) (s : Bool → List ℕ) (kept : List ℕ)
+pub record SideDone (x : ℕ) (sign : Bool) (a b : TermList) (s₀ : Bool → List ℕ) (count₀ : ℕ) (s : Bool → List ℕ) (kept : List ℕ)
     (c : Counts) (k : ℕ) : Type 0 where
-  pub grew : Grew (side_terms x sign (terms_of ap an) (terms_of bp bn)) s₀ count₀ s c.listed
-  pub keeps : KeptIn (least_joins (terms_of ap an) (terms_of bp bn)) (held s c.listed) kept c.kept
+  pub grew : Grew (side_terms x sign (terms_in a) (terms_in b)) s₀ count₀ s c.listed
+  pub keeps : KeptIn (least_between a b) (held s c.listed) kept c.kept
   pub room : length kept ≤ 2 * max_capacity
-  pub done : (i : ℕ) → i < k → ListsOne x sign (terms_of bp bn) (term_at ap an i) (held s c.listed)
+  pub done : (i : ℕ) → i < k → ListsOne x sign (terms_in b) (nth a i) (held s c.listed)
 
-module _ {x : ℕ} {ap an bp bn : List ℕ} {s₀ : Bool → List ℕ} {kept₀ : List ℕ} {c₀ : Counts} (g : Extending x ap an bp bn s₀ kept₀ c₀)
+module _ {x : ℕ} {a b : TermList} {s₀ : Bool → List ℕ} {kept₀ : List ℕ} {c₀ : Counts} (g : Extending x a b s₀ kept₀ c₀)
     (sign : Bool) where
-  pub side-start : SideDone x sign ap an bp bn s₀ c₀.listed s₀ kept₀ c₀ 0
+  pub side-start : SideDone x sign a b s₀ c₀.listed s₀ kept₀ c₀ 0
   side-start =
       record {
         grew = grew_none g.growing.front;
@@ -113,11 +113,11 @@ module _ {x : ℕ} {ap an bp bn : List ℕ} {s₀ : Bool → List ℕ} {kept₀ 
         done = λ i l. absurd (not-suc-le-zero l);
       }
 
-  module _ {s : Bool → List ℕ} {kept : List ℕ} {c : Counts} {k : ℕ} (h : SideDone x sign ap an bp bn s₀ c₀.listed s kept c k) where
-    pub side-length : (b : Bool) → length (s b) ≡ length (s₀ b)
+  module _ {s : Bool → List ℕ} {kept : List ℕ} {c : Counts} {k : ℕ} (h : SideDone x sign a b s₀ c₀.listed s kept c k) where
+    pub side-length : (d : Bool) → length (s d) ≡ length (s₀ d)
     side-length = grew-length g.growing.front h.grew
 
-    pub side-extending : Extending x ap an bp bn s kept c
+    pub side-extending : Extending x a b s kept c
     side-extending =
         record {
           growing = record {
@@ -131,11 +131,11 @@ module _ {x : ℕ} {ap an bp bn : List ℕ} {s₀ : Bool → List ℕ} {kept₀ 
         }
 
     pub side-next : {s' : Bool → List ℕ} {kept' : List ℕ} {d : Counts}
-        → Grew (side_terms x sign (terms_of ap an) (terms_of bp bn)) s c.listed s' d.listed
-        → KeptIn (least_joins (terms_of ap an) (terms_of bp bn)) (held s' d.listed) kept' d.kept
+        → Grew (side_terms x sign (terms_in a) (terms_in b)) s c.listed s' d.listed
+        → KeptIn (least_between a b) (held s' d.listed) kept' d.kept
         → length kept' ≤ 2 * max_capacity
-        → ListsOne x sign (terms_of bp bn) (term_at ap an k) (held s' d.listed)
-        → SideDone x sign ap an bp bn s₀ c₀.listed s' kept' d (k + 1)
+        → ListsOne x sign (terms_in b) (nth a k) (held s' d.listed)
+        → SideDone x sign a b s₀ c₀.listed s' kept' d (k + 1)
     side-next {s'} {kept'} {d} more keeps room one =
         record {
           grew = grew_then g.growing.front h.grew more;
@@ -146,22 +146,22 @@ module _ {x : ℕ} {ap an bp bn : List ℕ} {s₀ : Bool → List ℕ} {kept₀ 
         }
       where
         now : ℕ → Type 0
-        now i = ListsOne x sign (terms_of bp bn) (term_at ap an i) (held s' d.listed)
+        now i = ListsOne x sign (terms_in b) (nth a i) (held s' d.listed)
 
-    pub side-over : Overflow (side_terms x sign (terms_of ap an) (terms_of bp bn)) s c.listed
-        → Overflow (side_terms x sign (terms_of ap an) (terms_of bp bn)) s₀ c₀.listed
+    pub side-over : Overflow (side_terms x sign (terms_in a) (terms_in b)) s c.listed
+        → Overflow (side_terms x sign (terms_in a) (terms_in b)) s₀ c₀.listed
     side-over o = over-then g.growing.front h.grew o
 
-    pub side-end : length ap ≤ k
-        → Grown (side_terms x sign (terms_of ap an) (terms_of bp bn)) (least_joins (terms_of ap an) (terms_of bp bn))
-        (ListsSide x sign (terms_of ap an) (terms_of bp bn)) s₀ c₀.listed s kept (Some c)
+    pub side-end : length a.positives.now ≤ k
+        → Grown (side_terms x sign (terms_in a) (terms_in b)) (least_between a b)
+        (ListsSide x sign (terms_in a) (terms_in b)) s₀ c₀.listed s kept (Some c)
     unfolding extended
     side-end le = (h.grew, h.keeps, h.room, all)
       where
-        all : ListsSide x sign (terms_of ap an) (terms_of bp bn) (held s c.listed)
+        all : ListsSide x sign (terms_in a) (terms_in b) (held s c.listed)
         all t m =
-            let (u, n, e) = map-out (λ t. extend t x sign) (keep (λ t. not (holds_one (terms_of bp bn) t)) (terms_of ap an)) t m in
-            let (o, p) = keep_out (λ t. not (holds_one (terms_of bp bn) t)) (terms_of ap an) u n in
-            let (i, l, d) = place_of ap an u g.growing.at.even-low o in
+            let (u, n, e) = map-out (λ t. extend t x sign) (keep (λ t. not (holds_one (terms_in b) t)) (terms_in a)) t m in
+            let (o, p) = keep_out (λ t. not (holds_one (terms_in b) t)) (terms_in a) u n in
+            let (i, l, d) = place_of a.positives.now a.negatives.now u a.same_length o in
             subst (λ (z : Term). Memᴰ z (held s c.listed)) (sym (e ∙ (λ j. extend (d j) x sign)))
-            (h.done i (lt_of_lt_of_le l le) (is_false _ (subst (λ (z : Term). T (not (holds_one (terms_of bp bn) z))) d p)))
+            (h.done i (lt_of_lt_of_le l le) (is_false _ (subst (λ (z : Term). T (not (holds_one (terms_in b) z))) d p)))

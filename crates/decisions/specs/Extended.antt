@@ -2,17 +2,19 @@
 use Rattle.std.specs.Prelude.{ℕ, ◌<◌, ◌≡◌, Bool, false, T}
 use mathlib.Core.List.{List, ◌++◌, Memᴰ}
 use Rattle.terms.specs.Joins.{holds_one, extended}
-use Rattle.terms.specs.Term.{has, extend, terms_of}
+use Rattle.terms.specs.Term.{has, extend}
 use Rattle.terms.specs.declared.Term.{Term}
+use Rattle.lists.specs.List.{terms_in}
+use Rattle.lists.specs.declared.list.TermList.{TermList}
 use Rattle.settling.specs.Growth.{Growing}
 use Rattle.settling.specs.Sides.{least_joins}
 use Rattle.settling.specs.declared.counts.Counts.{Counts}
 
 -- a list grows by the terms of the side a, in which x is not
-pub record Extending (x : ℕ) (ap an bp bn : List ℕ) (s : Bool → List ℕ) (kept : List ℕ) (c : Counts) : Type 0 where
-  pub growing : Growing ap an bp bn s kept c
+pub record Extending (x : ℕ) (a b : TermList) (s : Bool → List ℕ) (kept : List ℕ) (c : Counts) : Type 0 where
+  pub growing : Growing a b s kept c
   pub below : x < growing.at.sides.variables
-  pub free : (t : Term) → Memᴰ t (terms_of ap an) → (b : Bool) → T (has t b x) → ⊥
+  pub free : (t : Term) → Memᴰ t (terms_in a) → (d : Bool) → T (has t d x) → ⊥
 
 -- the terms of the side a that may be listed: with the literal of x, or as least joins
 abbrev pub side_terms : ℕ → Bool → List Term → List Term → List Term

@@ -5,16 +5,16 @@ ghost use Rattle.std.specs.Prelude.{◌≡◌, [], ◌*◌, ◌≤◌, length, r
 ghost use Rattle.terms.specs.Joins.{decision_terms};
 ghost use Rattle.terms.specs.Lists.{sort};
 ghost use Rattle.terms.specs.Order.{before};
-ghost use Rattle.terms.specs.Term.{terms_of};
+ghost use Rattle.lists.specs.List.{slots, terms_in};
 ghost use Rattle.lists.specs.Capacity.{max_capacity};
 ghost use Rattle.hints.specs.Scratch.{max_words, column_count, HasHalves};
-ghost use Rattle.lists.specs.List.{by_sign};
 ghost use Rattle.insertion.specs.Filled.{Filled};
 ghost use Rattle.settling.specs.Sides.{DecidedAt};
 ghost use Rattle.decisions.specs.Sizes.{short_side};
 
 mod side;
 
+use lists::list::{TermBuffer, TermList};
 use hints::{LITERALS, NO_PLACE, WORD_BITS};
 use lists::MAX_CAPACITY;
 use pairing::pairs::join_all;
@@ -61,24 +61,21 @@ const LONG_COLUMNS: usize = BOTH_COLUMNS * LONG / WORD_BITS;
 // Makes the terms of a decision with scratch: kept terms, which are at hand, and where to try them first. What it holds before and after
 // is left free; a least join that there is no room for is not kept.
 fn decide(
-    positives: &mut [u64],
-    negatives: &mut [u64],
+    list: &mut TermBuffer,
     kept: &mut [u64],
     hints: &mut [u16],
     columns: &mut [u64],
-    ap: &[u64],
-    an: &[u64],
-    bp: &[u64],
-    bn: &[u64],
+    a: TermList,
+    b: TermList,
     x: u32,
 ) -> Option<usize>
-    requires decided_at { DecidedAt x ap.now an.now bp.now bn.now }
-    requires negatives_len { (length negatives.old ≡ length positives.old) × (length kept.old ≤ 2 * max_capacity) }
-    requires has_halves { HasHalves (length ap.now) (length bp.now) columns.old }
+    requires decided_at { DecidedAt x a b }
+    requires negatives_len { × (length kept.old ≤ 2 * max_capacity) }
+    requires has_halves { HasHalves (length a.positives.now) (length b.positives.now) columns.old }
     ensures { Filled
-        (sort (before []) (decision_terms x (terms_of ap.now an.now) (terms_of bp.now bn.now)))
-        (by_sign positives.old negatives.old)
-        (by_sign positives.new negatives.new) result }
+        (sort (before []) (decision_terms x (terms_in a.entry) (terms_in b.entry)))
+        (slots list.old)
+        (slots list.new) result }
 {
     let none = Counts {
         listed: 0,
@@ -93,46 +90,40 @@ fn decide(
         variable: x,
         sign: true,
     };
-    let c = list_side(positives, negatives, kept, hints, ap, an, bp, bn, no, none)?;
-    let d = list_side(positives, negatives, kept, hints, bp, bn, ap, an, yes, c)?;
+    let c = list_side(list, kept, hints, a, b, no, none)?;
+    let d = list_side(list, kept, hints, b, a, yes, c)?;
     let e = join_all(
-        positives, negatives, kept, hints, columns, ap, an, bp, bn, d,
+        list, kept, hints, columns, a, b, d,
     )?;
     Some(e.listed)
 }
 
 // The same with scratch of these sizes.
 fn decide_with<const KEPT: usize, const HINTS: usize, const COLUMNS: usize>(
-    positives: &mut [u64],
-    negatives: &mut [u64],
-    ap: &[u64],
-    an: &[u64],
-    bp: &[u64],
-    bn: &[u64],
+    list: &mut TermBuffer,
+    a: TermList,
+    b: TermList,
     x: u32,
 ) -> Option<usize>
-    requires decided_at { DecidedAt x ap.now an.now bp.now bn.now }
-    requires negatives_len { length negatives.old ≡ length positives.old }
+    requires decided_at { DecidedAt x a b }
+    requires negatives_len { length negatives.old ≡ length list.old.positives.now }
     requires sizes { (KEPT ≤ 2 * max_capacity) × (HINTS ≤ 2 * max_capacity) × (COLUMNS ≤ 2 * column_count * max_words) }
-    requires has_halves { HasHalves (length ap.now) (length bp.now) (replicate COLUMNS 0) }
+    requires has_halves { HasHalves (length a.positives.now) (length b.positives.now) (replicate COLUMNS 0) }
     ensures { Filled
-        (sort (before []) (decision_terms x (terms_of ap.now an.now) (terms_of bp.now bn.now)))
-        (by_sign positives.old negatives.old)
-        (by_sign positives.new negatives.new) result }
+        (sort (before []) (decision_terms x (terms_in a.entry) (terms_in b.entry)))
+        (slots list.old)
+        (slots list.new) result }
 {
     let mut kept = [0u64; KEPT];
     let mut hints = [NO_PLACE; HINTS];
     let mut columns = [0u64; COLUMNS];
     decide(
-        positives,
-        negatives,
+        list,
         &mut kept,
         &mut hints,
         &mut columns,
-        ap,
-        an,
-        bp,
-        bn,
+        a,
+        b,
         x,
     )
 }
@@ -147,36 +138,33 @@ fn has_few_joins(m: usize, n: usize, capacity: usize) -> bool
 // Makes the terms of a decision by x from those of its sides: a where x is no, b where it is yes. Scratch is zeroed when it is made, so
 // that short sides have little.
 pub fn decision(
-    positives: &mut [u64],
-    negatives: &mut [u64],
-    ap: &[u64],
-    an: &[u64],
-    bp: &[u64],
-    bn: &[u64],
+    list: &mut TermBuffer,
+    a: TermList,
+    b: TermList,
     x: u32,
 ) -> Option<usize>
-    requires decided_at { DecidedAt x ap.now an.now bp.now bn.now }
-    requires negatives_len { length negatives.old ≡ length positives.old }
+    requires decided_at { DecidedAt x a b }
+    requires negatives_len { length negatives.old ≡ length list.old.positives.now }
     ensures { Filled
-        (sort (before []) (decision_terms x (terms_of ap.now an.now) (terms_of bp.now bn.now)))
-        (by_sign positives.old negatives.old)
-        (by_sign positives.new negatives.new) result }
+        (sort (before []) (decision_terms x (terms_in a.entry) (terms_in b.entry)))
+        (slots list.old)
+        (slots list.new) result }
 {
-    let longer = ap.len().max(bp.len());
+    let longer = a.len().max(b.len());
     if longer > MIDDLE {
         return decide_with::<ALL_KEPT, LONG_HINTS, LONG_COLUMNS>(
-            positives, negatives, ap, an, bp, bn, x,
+            list, a, b, x,
         );
     }
     if longer > SHORT {
         return decide_with::<ALL_KEPT, MIDDLE_HINTS, MIDDLE_COLUMNS>(
-            positives, negatives, ap, an, bp, bn, x,
+            list, a, b, x,
         );
     }
-    if has_few_joins(ap.len(), bp.len(), positives.len()) {
+    if has_few_joins(a.len(), b.len(), list.positives.len()) {
         return decide_with::<FEW_KEPT, SHORT_HINTS, SHORT_COLUMNS>(
-            positives, negatives, ap, an, bp, bn, x,
+            list, a, b, x,
         );
     }
-    decide_with::<SOME_KEPT, SHORT_HINTS, SHORT_COLUMNS>(positives, negatives, ap, an, bp, bn, x)
+    decide_with::<SOME_KEPT, SHORT_HINTS, SHORT_COLUMNS>(list, a, b, x)
 }

@@ -1,16 +1,15 @@
 // The terms of one side: each is listed as it is, and kept, where a term of the other side is inside it, and else with the literal of the
 // decision's variable.
+ghost use Rattle.lists.specs.List.{nth, slots, terms_in};
 ghost use Rattle.std.specs.Prelude.{◌<◌, length};
-ghost use Rattle.terms.specs.Term.{terms_of};
-ghost use Rattle.lists.specs.Entries.{term_at};
-ghost use Rattle.lists.specs.List.{by_sign};
 ghost use Rattle.subsumption.specs.Ahead.{FoundInside};
 ghost use Rattle.settling.specs.Growth.{Grown};
 ghost use Rattle.decisions.specs.Extended.{Extending, side_terms, ListsOne, ListsSide};
-ghost use Rattle.settling.specs.Sides.{least_joins};
+ghost use Rattle.settling.specs.Sides.{least_between};
 
 use lists::MAX_CAPACITY;
 use settling::counts::{Counts, keep};
+use lists::list::{TermBuffer, TermList};
 use terms::Term;
 
 // A literal: a variable and its sign.
@@ -29,37 +28,34 @@ struct One {
 
 // Lists the term at a place.
 fn list_one(
-    positives: &mut [u64],
-    negatives: &mut [u64],
+    list: &mut TermBuffer,
     kept: &mut [u64],
-    ap: &[u64],
-    an: &[u64],
-    bp: &[u64],
-    bn: &[u64],
+    a: TermList,
+    b: TermList,
     literal: Literal,
     counts: Counts,
     one: One,
 ) -> Option<Counts>
-    requires extending { Extending literal.variable ap.now an.now bp.now bn.now (by_sign positives.old negatives.old) kept.old
+    requires extending { Extending literal.variable a b (slots list.old) kept.old
         counts }
-    requires at_in_bounds { (one.at < length ap.now) × FoundInside bp.now bn.now (term_at ap.now an.now one.at) one.found }
+    requires at_in_bounds { (one.at < length a.positives.now) × FoundInside b (nth a one.at) one.found }
     ensures { Grown
-        (side_terms literal.variable literal.sign (terms_of ap.now an.now)
-        (terms_of bp.now bn.now))
-        (least_joins (terms_of ap.now an.now) (terms_of bp.now bn.now))
-        (ListsOne literal.variable literal.sign (terms_of bp.now bn.now)
-        (term_at ap.now an.now one.at))
-        (by_sign positives.old negatives.old) counts.listed
-        (by_sign positives.new negatives.new) kept.new result }
+        (side_terms literal.variable literal.sign (terms_in a.entry)
+        (terms_in b.entry))
+        (least_between a.entry b.entry)
+        (ListsOne literal.variable literal.sign (terms_in b.entry)
+        (nth a.entry one.at))
+        (slots list.old) counts.listed
+        (slots list.new) kept.new result }
 {
     let at = one.at;
     let found = one.found;
-    let t = lists::term_at(ap, an, at);
+    let t = a.at(at);
     match found {
-        Some(_) => keep(positives, negatives, kept, counts, t),
+        Some(_) => keep(list, kept, counts, t),
         None => {
             let u = terms::extend(t, literal.variable, literal.sign);
-            let listed = insertion::insert(positives, negatives, counts.listed, u)?;
+            let listed = insertion::insert(list, counts.listed, u)?;
             Some(Counts { listed, ..counts })
         }
     }
@@ -83,38 +79,35 @@ fn hint_place(hints: &[u16], sign: bool, k: usize) -> usize {
 
 // Lists the terms of the side a. The hint of one that is kept is itself.
 pub fn list_side(
-    positives: &mut [u64],
-    negatives: &mut [u64],
+    list: &mut TermBuffer,
     kept: &mut [u64],
     hints: &mut [u16],
-    ap: &[u64],
-    an: &[u64],
-    bp: &[u64],
-    bn: &[u64],
+    a: TermList,
+    b: TermList,
     literal: Literal,
     start: Counts,
 ) -> Option<Counts>
-    requires { Extending literal.variable ap.now an.now bp.now bn.now (by_sign positives.old negatives.old) kept.old
+    requires { Extending literal.variable a b (slots list.old) kept.old
         start }
     ensures { Grown
-        (side_terms literal.variable literal.sign (terms_of ap.now an.now)
-        (terms_of bp.now bn.now))
-        (least_joins (terms_of ap.now an.now) (terms_of bp.now bn.now))
-        (ListsSide literal.variable literal.sign (terms_of ap.now an.now)
-        (terms_of bp.now bn.now))
-        (by_sign positives.old negatives.old) start.listed
-        (by_sign positives.new negatives.new) kept.new result }
+        (side_terms literal.variable literal.sign (terms_in a.entry)
+        (terms_in b.entry))
+        (least_between a.entry b.entry)
+        (ListsSide literal.variable literal.sign (terms_in a.entry)
+        (terms_in b.entry))
+        (slots list.old) start.listed
+        (slots list.new) kept.new result }
 {
     let mut counts = start;
     let mut end = 0;
     let mut guess = 0;
-    for k in 0..ap.len() {
-        let t = lists::term_at(ap, an, k);
-        end = subsumption::end_ahead(bp, bn, end, t);
-        let found = subsumption::find_inside(bp, bn, end, guess, t);
+    for k in 0..a.len() {
+        let t = a.at(k);
+        end = subsumption::end_ahead(b, end, t);
+        let found = subsumption::find_inside(b, end, guess, t);
         let one = One { at: k, found };
         let next = list_one(
-            positives, negatives, kept, ap, an, bp, bn, literal, counts, one,
+            list, kept, a, b, literal, counts, one,
         )?;
         if counts.kept < next.kept {
             hints::set_hint(hints, hint_place(hints, literal.sign, k), counts.kept);

@@ -11,13 +11,12 @@ use lib.Dec.{ltb, ltb→lt, nltb→le}
 use lib.ListN.{length}
 use Rattle.std.specs.Prelude.{Some}
 use Rattle.masks.proofs.Tests.{below_suc, decide}
-use Rattle.terms.specs.Term.{terms_of}
 use Rattle.terms.specs.declared.Term.{Term}
+use Rattle.lists.specs.List.{held, nth}
+use Rattle.lists.specs.declared.list.TermList.{TermList}
 use Rattle.lists.specs.Capacity.{max_capacity}
-use Rattle.lists.specs.Entries.{term_at}
-use Rattle.lists.specs.List.{held}
 use Rattle.settling.specs.Growth.{Grew, Overflow, Growing, Grown}
-use Rattle.settling.specs.Sides.{SidesAt, least_joins, Settled, SettledFrom, AllSettled, KeptIn, Stepped}
+use Rattle.settling.specs.Sides.{SidesAt, least_between, Settled, SettledFrom, AllSettled, KeptIn, Stepped}
 use Rattle.pairing.specs.Pairs.{Paired}
 use Rattle.settling.specs.declared.counts.Counts.{Counts}
 use Rattle.settling.proofs.Down.{low-in, high-in}
@@ -42,7 +41,7 @@ pub kept-wider : {least least' l : List Term} {kept : List ℕ} {k : ℕ} → ((
 kept-wider h k = record { room = k.room; are-listed = k.are-listed; are-least = λ j i. h _ (k.are-least j i) }
 
 -- ---- the sides the other way round
-abbrev pub at-turned : {ap an bp bn : List ℕ} → SidesAt ap an bp bn → SidesAt bp bn ap an
+abbrev pub at-turned : {a b : TermList} → SidesAt a b → SidesAt b a
 at-turned h =
     record {
       even-low = h.even-high;
@@ -52,8 +51,8 @@ at-turned h =
       sides = turned h.sides;
     }
 
-abbrev pub growing-turned : {ap an bp bn : List ℕ} {s : Bool → List ℕ} {kept : List ℕ} {c : Counts} → Growing ap an bp bn s kept c
-    → Growing bp bn ap an s kept c
+abbrev pub growing-turned : {a b : TermList} {s : Bool → List ℕ} {kept : List ℕ} {c : Counts} → Growing a b s kept c
+    → Growing b a s kept c
 growing-turned g =
     record {
       at = at-turned g.at;
@@ -64,58 +63,58 @@ growing-turned g =
 
 -- ---- one row more
 abbrev Done : List ℕ → List ℕ → List ℕ → List ℕ → ℕ → ℕ → List Term → ℕ → ℕ → Type 0
-Done ap an bp bn low high l i j =
-    ((i < low) ⊎ (j < high)) ⊎ Settled (least_joins (terms_of ap an) (terms_of bp bn)) l (term_at ap an i) (term_at bp bn j)
+Done a b low high l i j =
+    ((i < low) ⊎ (j < high)) ⊎ Settled (least_between a b) l (nth a i) (nth b j)
 
-module _ {ap an bp bn : List ℕ} (h : SidesAt ap an bp bn) {low high : ℕ} {l : List Term} where
-  pub stepped-low : low < length ap → high ≤ length bp
-      → SettledFrom (least_joins (terms_of ap an) (terms_of bp bn)) l (term_at ap an low) bp bn high
-      → Stepped (least_joins (terms_of ap an) (terms_of bp bn)) ap an bp bn low high l (low + 1) high
+module _ {a b : TermList} (h : SidesAt a b) {low high : ℕ} {l : List Term} where
+  pub stepped-low : low < length a.positives.now → high ≤ length b.positives.now
+      → SettledFrom (least_between a b) l (nth a low) b high
+      → Stepped (least_between a b) a b low high l (low + 1) high
   stepped-low m n done =
       record { one = omega arith; within_low = omega arith; within-high = n; settles = settles }
     where
-      here : (j : ℕ) → j < length bp → Done ap an bp bn low high l low j
+      here : (j : ℕ) → j < length b.positives.now → Done a b low high l low j
       here j k =
           ⊎_elim (λ t. inl (inr (ltb→lt j high t))) (λ t. inr (done j (nltb→le j high t) k)) (decide (ltb j high))
 
-      settles : (i j : ℕ) → i < length ap → j < length bp → (i < low + 1) ⊎ (j < high) → Done ap an bp bn low high l i j
+      settles : (i j : ℕ) → i < length a.positives.now → j < length b.positives.now → (i < low + 1) ⊎ (j < high) → Done a b low high l i j
       settles i j p q (inl k) =
-          ⊎_elim (λ (e : i ≡ low). subst (λ (z : ℕ). Done ap an bp bn low high l z j) (sym e) (here j q)) (λ (o : i < low). inl (inl o))
+          ⊎_elim (λ (e : i ≡ low). subst (λ (z : ℕ). Done a b low high l z j) (sym e) (here j q)) (λ (o : i < low). inl (inl o))
           (below_suc (rw (sym (add-one low)) k))
       settles i j p q (inr k) = inl (inr k)
 
-  pub stepped-high : low ≤ length ap → high < length bp
-      → SettledFrom (least_joins (terms_of bp bn) (terms_of ap an)) l (term_at bp bn high) ap an low
-      → Stepped (least_joins (terms_of ap an) (terms_of bp bn)) ap an bp bn low high l low (high + 1)
+  pub stepped-high : low ≤ length a.positives.now → high < length b.positives.now
+      → SettledFrom (least_between b a) l (nth b high) a low
+      → Stepped (least_between a b) a b low high l low (high + 1)
   stepped-high m n done =
       record { one = omega arith; within_low = m; within-high = omega arith; settles = settles }
     where
-      here : (i : ℕ) → i < length ap → Done ap an bp bn low high l i high
+      here : (i : ℕ) → i < length a.positives.now → Done a b low high l i high
       here i k =
           ⊎_elim (λ t. inl (inl (ltb→lt i low t)))
-          (λ t. inr (settled-turned h.sides (term_at ap an i) (term_at bp bn high) (low-in h i k) (high-in h high n)
+          (λ t. inr (settled-turned h.sides (nth a i) (nth b high) (low-in h i k) (high-in h high n)
           (done i (nltb→le i low t) k)))
           (decide (ltb i low))
 
-      settles : (i j : ℕ) → i < length ap → j < length bp → (i < low) ⊎ (j < high + 1) → Done ap an bp bn low high l i j
+      settles : (i j : ℕ) → i < length a.positives.now → j < length b.positives.now → (i < low) ⊎ (j < high + 1) → Done a b low high l i j
       settles i j p q (inl k) = inl (inl k)
       settles i j p q (inr k) =
-          ⊎_elim (λ (e : j ≡ high). subst (λ (z : ℕ). Done ap an bp bn low high l i z) (sym e) (here i p)) (λ (o : j < high). inl (inr o))
+          ⊎_elim (λ (e : j ≡ high). subst (λ (z : ℕ). Done a b low high l i z) (sym e) (here i p)) (λ (o : j < high). inl (inr o))
           (below_suc (rw (sym (add-one high)) k))
 
 -- ---- the pairs of the rows that are settled, by a list that was s₀
-pub record PairsDone (ap an bp bn : List ℕ) (s₀ : Bool → List ℕ) (count₀ : ℕ) (s : Bool → List ℕ) (kept : List ℕ) (t : Turn) : Type 0 where
-  pub grew : Grew (least_joins (terms_of ap an) (terms_of bp bn)) s₀ count₀ s t.listed
-  pub keeps : KeptIn (least_joins (terms_of ap an) (terms_of bp bn)) (held s t.listed) kept t.kept
+pub record PairsDone (a b : TermList) (s₀ : Bool → List ℕ) (count₀ : ℕ) (s : Bool → List ℕ) (kept : List ℕ) (t : Turn) : Type 0 where
+  pub grew : Grew (least_between a b) s₀ count₀ s t.listed
+  pub keeps : KeptIn (least_between a b) (held s t.listed) kept t.kept
   pub room : length kept ≤ 2 * max_capacity
-  pub within_low : t.low.at ≤ length ap
-  pub within-high : t.high.at ≤ length bp
-  pub settles : (i j : ℕ) → i < length ap → j < length bp → (i < t.low.at) ⊎ (j < t.high.at)
-      → Settled (least_joins (terms_of ap an) (terms_of bp bn)) (held s t.listed) (term_at ap an i) (term_at bp bn j)
+  pub within_low : t.low.at ≤ length a.positives.now
+  pub within-high : t.high.at ≤ length b.positives.now
+  pub settles : (i j : ℕ) → i < length a.positives.now → j < length b.positives.now → (i < t.low.at) ⊎ (j < t.high.at)
+      → Settled (least_between a b) (held s t.listed) (nth a i) (nth b j)
 
-module _ {ap an bp bn : List ℕ} {s₀ : Bool → List ℕ} {kept₀ : List ℕ} {c₀ : Counts} (g : Growing ap an bp bn s₀ kept₀ c₀) where
+module _ {a b : TermList} {s₀ : Bool → List ℕ} {kept₀ : List ℕ} {c₀ : Counts} (g : Growing a b s₀ kept₀ c₀) where
   pub pairs_start : (low high : Side) → low.at ≡ 0 → high.at ≡ 0
-      → PairsDone ap an bp bn s₀ c₀.listed s₀ kept₀ (record { listed = c₀.listed; kept = c₀.kept; low = low; high = high })
+      → PairsDone a b s₀ c₀.listed s₀ kept₀ (record { listed = c₀.listed; kept = c₀.kept; low = low; high = high })
   pairs_start low high e d =
       record {
         grew = grew_none g.front;
@@ -126,11 +125,11 @@ module _ {ap an bp bn : List ℕ} {s₀ : Bool → List ℕ} {kept₀ : List ℕ
         settles = λ i j p q k. ⊎_elim (λ m. absurd (omega (arith, m, e))) (λ m. absurd (omega (arith, m, d))) k;
       }
 
-  module _ {s : Bool → List ℕ} {kept : List ℕ} {t : Turn} (h : PairsDone ap an bp bn s₀ c₀.listed s kept t) where
-    pub pairs-length : (b : Bool) → length (s b) ≡ length (s₀ b)
+  module _ {s : Bool → List ℕ} {kept : List ℕ} {t : Turn} (h : PairsDone a b s₀ c₀.listed s kept t) where
+    pub pairs-length : (d : Bool) → length (s d) ≡ length (s₀ d)
     pairs-length = grew-length g.front h.grew
 
-    pub pairs-left : t.low.at < length ap → t.high.at < length bp → Paired ap an bp bn s kept t
+    pub pairs-left : t.low.at < length a.positives.now → t.high.at < length b.positives.now → Paired a b s kept t
     pairs-left l m =
         record {
           growing = record {
@@ -144,12 +143,12 @@ module _ {ap an bp bn : List ℕ} {s₀ : Bool → List ℕ} {kept₀ : List ℕ
         }
 
     pub pairs_next : {s' : Bool → List ℕ} {kept' : List ℕ} {u : Turn}
-        → Grew (least_joins (terms_of ap an) (terms_of bp bn)) s t.listed s' u.listed
-        → KeptIn (least_joins (terms_of ap an) (terms_of bp bn)) (held s' u.listed) kept' u.kept
+        → Grew (least_between a b) s t.listed s' u.listed
+        → KeptIn (least_between a b) (held s' u.listed) kept' u.kept
         → length kept' ≤ 2 * max_capacity
-        → Stepped (least_joins (terms_of ap an) (terms_of bp bn)) ap an bp bn t.low.at t.high.at (held s' u.listed) u.low.at
+        → Stepped (least_between a b) a b t.low.at t.high.at (held s' u.listed) u.low.at
         u.high.at
-        → PairsDone ap an bp bn s₀ c₀.listed s' kept' u
+        → PairsDone a b s₀ c₀.listed s' kept' u
     pairs_next more keeps room one =
         record {
           grew = grew_then g.front h.grew more;
@@ -159,22 +158,22 @@ module _ {ap an bp bn : List ℕ} {s₀ : Bool → List ℕ} {kept₀ : List ℕ
           within-high = one.within-high;
           settles = λ i j p q k. ⊎_elim
               (λ (before : (i < t.low.at) ⊎ (j < t.high.at)).
-              settled-more (term_at ap an i) (term_at bp bn j) more.keeps (h.settles i j p q before))
+              settled-more (nth a i) (nth b j) more.keeps (h.settles i j p q before))
               (λ now. now) (one.settles i j p q k);
         }
 
-    pub pairs-over : Overflow (least_joins (terms_of ap an) (terms_of bp bn)) s t.listed
-        → Overflow (least_joins (terms_of ap an) (terms_of bp bn)) s₀ c₀.listed
+    pub pairs-over : Overflow (least_between a b) s t.listed
+        → Overflow (least_between a b) s₀ c₀.listed
     pairs-over o = over-then g.front h.grew o
 
-    pub pairs_end : (cost : ℕ) → (length ap ≤ t.low.at) ⊎ (length bp ≤ t.high.at)
-        → Grown (least_joins (terms_of ap an) (terms_of bp bn)) (least_joins (terms_of ap an) (terms_of bp bn))
-        (λ l. AllSettled (least_joins (terms_of ap an) (terms_of bp bn)) l ap an bp bn) s₀ c₀.listed s kept
+    pub pairs_end : (cost : ℕ) → (length a.positives.now ≤ t.low.at) ⊎ (length b.positives.now ≤ t.high.at)
+        → Grown (least_between a b) (least_between a b)
+        (λ l. AllSettled (least_between a b) l a b) s₀ c₀.listed s kept
         (Some (record { listed = t.listed; kept = t.kept; cost = cost }))
     pairs_end cost k = (
       h.grew,
       h.keeps,
       h.room,
-      λ i j p q. h.settles i j p q (⊎_map (λ (e : length ap ≤ t.low.at). lt_of_lt_of_le p e)
-          (λ (e : length bp ≤ t.high.at). lt_of_lt_of_le q e) k),
+      λ i j p q. h.settles i j p q (⊎_map (λ (e : length a.positives.now ≤ t.low.at). lt_of_lt_of_le p e)
+          (λ (e : length b.positives.now ≤ t.high.at). lt_of_lt_of_le q e) k),
     )

@@ -1,13 +1,13 @@
 // All pairs of terms of the two sides, row by row: the side whose rows cost less goes on.
+ghost use Rattle.lists.specs.List.{slots};
 ghost use Rattle.std.specs.Prelude.{◌≡◌, ◌+◌, ◌*◌, ◌≤◌, ◌<◌, length};
-ghost use Rattle.terms.specs.Term.{terms_of};
 ghost use Rattle.lists.specs.Capacity.{max_capacity};
 ghost use Rattle.hints.specs.Scratch.{HasHalves, max_cost};
-ghost use Rattle.lists.specs.List.{by_sign};
 ghost use Rattle.settling.specs.Growth.{Growing, Grown};
 ghost use Rattle.pairing.specs.Pairs.{Paired, Turns};
-ghost use Rattle.settling.specs.Sides.{least_joins, AllSettled};
+ghost use Rattle.settling.specs.Sides.{least_between, AllSettled};
 
+use lists::list::{TermBuffer, TermList};
 use settling::counts::Counts;
 use settling::rows::{Row, settle_row};
 
@@ -60,22 +60,19 @@ fn met(side: Side, cost: usize) -> Side
 
 // Settles the next row of the low side. Where the sides stand then; none where there are more terms than the slices have entries.
 fn step_low(
-    positives: &mut [u64],
-    negatives: &mut [u64],
+    list: &mut TermBuffer,
     kept: &mut [u64],
     hints: &mut [u16],
     columns: &mut [u64],
-    ap: &[u64],
-    an: &[u64],
-    bp: &[u64],
-    bn: &[u64],
+    a: TermList,
+    b: TermList,
     turn: Turn,
 ) -> Option<Turn>
-    requires paired { Paired ap.now an.now bp.now bn.now (by_sign positives.old negatives.old) kept.old turn }
-    requires has_halves { HasHalves (length ap.now) (length bp.now) columns.old }
-    ensures { Turns ap.now an.now bp.now bn.now
-        (by_sign positives.old negatives.old) turn
-        (by_sign positives.new negatives.new) kept.new result }
+    requires paired { Paired a b (slots list.old) kept.old turn }
+    requires has_halves { HasHalves (length a.positives.now) (length b.positives.now) columns.old }
+    ensures { Turns a.entry b.entry
+        (slots list.old) turn
+        (slots list.new) kept.new result }
 {
     let low = turn.low;
     let high = turn.high;
@@ -96,15 +93,12 @@ fn step_low(
     let half = hints.len() / 2;
     let middle = columns.len() / 2;
     let c = settle_row(
-        positives,
-        negatives,
+        list,
         kept,
         &mut hints[half..],
         &mut columns[middle..],
-        ap,
-        an,
-        bp,
-        bn,
+        a,
+        b,
         row,
     )?;
     Some(Turn {
@@ -117,22 +111,19 @@ fn step_low(
 
 // Settles the next row of the high side.
 fn step_high(
-    positives: &mut [u64],
-    negatives: &mut [u64],
+    list: &mut TermBuffer,
     kept: &mut [u64],
     hints: &mut [u16],
     columns: &mut [u64],
-    ap: &[u64],
-    an: &[u64],
-    bp: &[u64],
-    bn: &[u64],
+    a: TermList,
+    b: TermList,
     turn: Turn,
 ) -> Option<Turn>
-    requires paired { Paired ap.now an.now bp.now bn.now (by_sign positives.old negatives.old) kept.old turn }
-    requires has_halves { HasHalves (length ap.now) (length bp.now) columns.old }
-    ensures { Turns ap.now an.now bp.now bn.now
-        (by_sign positives.old negatives.old) turn
-        (by_sign positives.new negatives.new) kept.new result }
+    requires paired { Paired a b (slots list.old) kept.old turn }
+    requires has_halves { HasHalves (length a.positives.now) (length b.positives.now) columns.old }
+    ensures { Turns a.entry b.entry
+        (slots list.old) turn
+        (slots list.new) kept.new result }
 {
     let low = turn.low;
     let high = turn.high;
@@ -153,15 +144,12 @@ fn step_high(
         hint,
     };
     let c = settle_row(
-        positives,
-        negatives,
+        list,
         kept,
         &mut hints[..half],
         &mut columns[..middle],
-        bp,
-        bn,
-        ap,
-        an,
+        b,
+        a,
         row,
     )?;
     Some(Turn {
@@ -173,72 +161,66 @@ fn step_high(
 }
 
 // The next row of the high side is settled at once: the kept term at its hint is inside its term.
-fn is_high_settled(kept: &[u64], hints: &[u16], bp: &[u64], bn: &[u64], turn: Turn) -> bool
-    requires { (2 * turn.kept ≤ length kept.now) × (turn.high.at < length bp.now) × (turn.high.at < length bn.now)
+fn is_high_settled(kept: &[u64], hints: &[u16], b: TermList, turn: Turn) -> bool
+    requires { (2 * turn.kept ≤ length kept.now) × (turn.high.at < length b.positives.now) × (turn.high.at < length bn.now)
         × (turn.high.at < max_capacity) }
 {
     let high = turn.high;
     let at = high.at;
     let half = hints.len() / 2;
     let hint = hints::hint_at(hints, half + at);
-    hints::covers(kept, turn.kept, hint, lists::term_at(bp, bn, at))
+    hints::covers(kept, turn.kept, hint, b.at(at))
 }
 
 // Settles the next row of the high side where that is settled at once, else of the side whose rows cost less. A low row that is settled
 // at once costs nothing.
 fn step(
-    positives: &mut [u64],
-    negatives: &mut [u64],
+    list: &mut TermBuffer,
     kept: &mut [u64],
     hints: &mut [u16],
     columns: &mut [u64],
-    ap: &[u64],
-    an: &[u64],
-    bp: &[u64],
-    bn: &[u64],
+    a: TermList,
+    b: TermList,
     turn: Turn,
 ) -> Option<Turn>
-    requires paired { Paired ap.now an.now bp.now bn.now (by_sign positives.old negatives.old) kept.old turn }
-    requires has_halves { HasHalves (length ap.now) (length bp.now) columns.old }
-    ensures { Turns ap.now an.now bp.now bn.now
-        (by_sign positives.old negatives.old) turn
-        (by_sign positives.new negatives.new) kept.new result }
+    requires paired { Paired a b (slots list.old) kept.old turn }
+    requires has_halves { HasHalves (length a.positives.now) (length b.positives.now) columns.old }
+    ensures { Turns a.entry b.entry
+        (slots list.old) turn
+        (slots list.new) kept.new result }
 {
     let low = turn.low;
     let high = turn.high;
-    if !is_high_settled(kept, hints, bp, bn, turn)
-        && goes_low(low, high, ap.len() - low.at, bp.len() - high.at)
+    if !is_high_settled(kept, hints, b, turn)
+        && goes_low(low, high, a.len() - low.at, b.len() - high.at)
     {
         return step_low(
-            positives, negatives, kept, hints, columns, ap, an, bp, bn, turn,
+            list, kept, hints, columns, a, b, turn,
         );
     }
     step_high(
-        positives, negatives, kept, hints, columns, ap, an, bp, bn, turn,
+        list, kept, hints, columns, a, b, turn,
     )
 }
 
 // Settles all pairs.
 pub fn join_all(
-    positives: &mut [u64],
-    negatives: &mut [u64],
+    list: &mut TermBuffer,
     kept: &mut [u64],
     hints: &mut [u16],
     columns: &mut [u64],
-    ap: &[u64],
-    an: &[u64],
-    bp: &[u64],
-    bn: &[u64],
+    a: TermList,
+    b: TermList,
     start: Counts,
 ) -> Option<Counts>
-    requires growing { Growing ap.now an.now bp.now bn.now (by_sign positives.old negatives.old) kept.old start }
-    requires has_halves { HasHalves (length ap.now) (length bp.now) columns.old }
-    ensures { Grown (least_joins (terms_of ap.now an.now) (terms_of bp.now bn.now))
-        (least_joins (terms_of ap.now an.now) (terms_of bp.now bn.now))
-        (λ l. AllSettled (least_joins (terms_of ap.now an.now) (terms_of bp.now bn.now)) l
-        ap.now an.now bp.now bn.now)
-        (by_sign positives.old negatives.old) start.listed
-        (by_sign positives.new negatives.new) kept.new result }
+    requires growing { Growing a b (slots list.old) kept.old start }
+    requires has_halves { HasHalves (length a.positives.now) (length b.positives.now) columns.old }
+    ensures { Grown (least_between a.entry b.entry)
+        (least_between a.entry b.entry)
+        (λ l. AllSettled (least_between a.entry b.entry) l
+        a.entry b.entry)
+        (slots list.old) start.listed
+        (slots list.new) kept.new result }
 {
     let first = Side {
         at: 0,
@@ -251,9 +233,9 @@ pub fn join_all(
         low: first,
         high: first,
     };
-    while turn.low.at < ap.len() && turn.high.at < bp.len() {
+    while turn.low.at < a.len() && turn.high.at < b.len() {
         turn = step(
-            positives, negatives, kept, hints, columns, ap, an, bp, bn, turn,
+            list, kept, hints, columns, a, b, turn,
         )?;
     }
     Some(Counts {

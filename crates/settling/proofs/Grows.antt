@@ -9,24 +9,23 @@ use native.Mathlib.Numerals.{add-one}
 use lib.ListN.{length}
 use Rattle.std.specs.Prelude.{Option, Some, None}
 use Rattle.masks.proofs.Tests.{below_suc}
-use Rattle.terms.specs.Term.{terms_of}
 use Rattle.terms.specs.declared.Term.{Term}
+use Rattle.lists.specs.List.{held, nth}
+use Rattle.lists.specs.declared.list.TermList.{TermList}
 use Rattle.lists.specs.Capacity.{max_capacity}
-use Rattle.lists.specs.Entries.{term_at}
-use Rattle.lists.specs.List.{held}
 use Rattle.settling.specs.Growth.{Grew, Overflow, Keeps, Growing, Grown}
-use Rattle.settling.specs.Sides.{least_joins, KeptIn, Settled, SettledFrom}
+use Rattle.settling.specs.Sides.{least_between, KeptIn, Settled, SettledFrom}
 use Rattle.settling.specs.declared.counts.Counts.{Counts}
 use Rattle.settling.proofs.Growth.{grew_none, grew-length, grew-front, grew_then, grew-insert, over-then, over-insert}
 use Rattle.settling.proofs.KeptTerms.{kept_in}
 use Rattle.settling.proofs.Least.{least-terms, settled-more}
 
 -- a term of `more` that is a least join was to be listed and kept
-module _ {ap an bp bn : List ℕ} {s : Bool → List ℕ} {kept : List ℕ} {c : Counts} (g : Growing ap an bp bn s kept c)
-    (more : List Term) (t : Term) (m : Memᴰ t more) (n : Memᴰ t (least_joins (terms_of ap an) (terms_of bp bn))) where
+module _ {a b : TermList} {s : Bool → List ℕ} {kept : List ℕ} {c : Counts} (g : Growing a b s kept c)
+    (more : List Term) (t : Term) (m : Memᴰ t more) (n : Memᴰ t (least_between a b)) where
   pub kept-grown : (s' : Bool → List ℕ) (kept' : List ℕ) (done : List Term → Type 0) (r : Option Counts)
       → ((l : List Term) → Memᴰ t l → done l) → Keeps t s kept c s' kept' r
-      → Grown more (least_joins (terms_of ap an) (terms_of bp bn)) done s c.listed s' kept' r
+      → Grown more (least_between a b) done s c.listed s' kept' r
   kept-grown s' kept' done (Some d) h k =
       let (grew, listed) = grew-insert g.front t (least-terms g.at.sides t n) m k.0 in (
         grew,
@@ -37,8 +36,8 @@ module _ {ap an bp bn : List ℕ} {s : Bool → List ℕ} {kept : List ℕ} {c :
   kept-grown s' kept' done None h k = over-insert g.front t (least-terms g.at.sides t n) m k
 
 -- what a row cost does not matter
-pub recounted : {ap an bp bn : List ℕ} {s : Bool → List ℕ} {kept : List ℕ} {c : Counts} → Growing ap an bp bn s kept c → (cost : ℕ)
-    → Growing ap an bp bn s kept (record { listed = c.listed; kept = c.kept; cost = cost })
+pub recounted : {a b : TermList} {s : Bool → List ℕ} {kept : List ℕ} {c : Counts} → Growing a b s kept c → (cost : ℕ)
+    → Growing a b s kept (record { listed = c.listed; kept = c.kept; cost = cost })
 recounted g cost = record { at = g.at; front = g.front; keeps = g.keeps; room = g.room }
 
 -- what holds of the list may be said otherwise
@@ -49,17 +48,17 @@ grown-so more least done done' s count s' kept' (Some d) h g = (g.0, g.1, g.2, h
 grown-so more least done done' s count s' kept' None h g = g
 
 -- ---- a row: t was settled with the terms of b from a place on up to j, by a list that was s₀
-pub record SoFar (ap an bp bn : List ℕ) (t : Term) (from : ℕ) (s₀ : Bool → List ℕ) (count₀ : ℕ) (s : Bool → List ℕ) (kept : List ℕ)
+pub record SoFar (a b : TermList) (t : Term) (from : ℕ) (s₀ : Bool → List ℕ) (count₀ : ℕ) (s : Bool → List ℕ) (kept : List ℕ)
     (c : Counts) (j : ℕ) : Type 0 where
-  pub grew : Grew (least_joins (terms_of ap an) (terms_of bp bn)) s₀ count₀ s c.listed
-  pub keeps : KeptIn (least_joins (terms_of ap an) (terms_of bp bn)) (held s c.listed) kept c.kept
+  pub grew : Grew (least_between a b) s₀ count₀ s c.listed
+  pub keeps : KeptIn (least_between a b) (held s c.listed) kept c.kept
   pub room : length kept ≤ 2 * max_capacity
   pub done : (i : ℕ) → from ≤ i → i < j
-      → Settled (least_joins (terms_of ap an) (terms_of bp bn)) (held s c.listed) t (term_at bp bn i)
+      → Settled (least_between a b) (held s c.listed) t (nth b i)
 
-module _ {ap an bp bn : List ℕ} {s₀ : Bool → List ℕ} {kept₀ : List ℕ} {c₀ : Counts} (g : Growing ap an bp bn s₀ kept₀ c₀) where
+module _ {a b : TermList} {s₀ : Bool → List ℕ} {kept₀ : List ℕ} {c₀ : Counts} (g : Growing a b s₀ kept₀ c₀) where
   pub so-far-start : (t : Term) (from cost : ℕ)
-      → SoFar ap an bp bn t from s₀ c₀.listed s₀ kept₀ (record { listed = c₀.listed; kept = c₀.kept; cost = cost }) from
+      → SoFar a b t from s₀ c₀.listed s₀ kept₀ (record { listed = c₀.listed; kept = c₀.kept; cost = cost }) from
   so-far-start t from cost =
       record {
         grew = grew_none g.front;
@@ -69,37 +68,37 @@ module _ {ap an bp bn : List ℕ} {s₀ : Bool → List ℕ} {kept₀ : List ℕ
       }
 
   module _ {t : Term} {from : ℕ} {s : Bool → List ℕ} {kept : List ℕ} {c : Counts} {j : ℕ}
-      (h : SoFar ap an bp bn t from s₀ c₀.listed s kept c j) where
-    pub so-far-length : (b : Bool) → length (s b) ≡ length (s₀ b)
+      (h : SoFar a b t from s₀ c₀.listed s kept c j) where
+    pub so-far-length : (d : Bool) → length (s d) ≡ length (s₀ d)
     so-far-length = grew-length g.front h.grew
 
-    pub so-far-growing : Growing ap an bp bn s kept c
+    pub so-far-growing : Growing a b s kept c
     so-far-growing =
         record { at = g.at; front = grew-front g.front h.grew (least-terms g.at.sides); keeps = h.keeps; room = h.room }
 
     pub so-far-next : {s' : Bool → List ℕ} {kept' : List ℕ} {d : Counts}
-        → Grew (least_joins (terms_of ap an) (terms_of bp bn)) s c.listed s' d.listed
-        → KeptIn (least_joins (terms_of ap an) (terms_of bp bn)) (held s' d.listed) kept' d.kept
+        → Grew (least_between a b) s c.listed s' d.listed
+        → KeptIn (least_between a b) (held s' d.listed) kept' d.kept
         → length kept' ≤ 2 * max_capacity
-        → Settled (least_joins (terms_of ap an) (terms_of bp bn)) (held s' d.listed) t (term_at bp bn j)
-        → SoFar ap an bp bn t from s₀ c₀.listed s' kept' d (j + 1)
+        → Settled (least_between a b) (held s' d.listed) t (nth b j)
+        → SoFar a b t from s₀ c₀.listed s' kept' d (j + 1)
     so-far-next {s'} {kept'} {d} more keeps room one =
         record {
           grew = grew_then g.front h.grew more;
           keeps = keeps;
           room = room;
           done = λ i l m. ⊎_elim (λ (e : i ≡ j). subst (λ (z : ℕ). now z) (sym e) one)
-              (λ (k : i < j). settled-more t (term_at bp bn i) more.keeps (h.done i l k)) (below_suc (rw (sym (add-one j)) m));
+              (λ (k : i < j). settled-more t (nth b i) more.keeps (h.done i l k)) (below_suc (rw (sym (add-one j)) m));
         }
       where
         now : ℕ → Type 0
-        now i = Settled (least_joins (terms_of ap an) (terms_of bp bn)) (held s' d.listed) t (term_at bp bn i)
+        now i = Settled (least_between a b) (held s' d.listed) t (nth b i)
 
-    pub so-far-over : Overflow (least_joins (terms_of ap an) (terms_of bp bn)) s c.listed
-        → Overflow (least_joins (terms_of ap an) (terms_of bp bn)) s₀ c₀.listed
+    pub so-far-over : Overflow (least_between a b) s c.listed
+        → Overflow (least_between a b) s₀ c₀.listed
     so-far-over o = over-then g.front h.grew o
 
-    pub so-far-end : length bp ≤ j
-        → Grown (least_joins (terms_of ap an) (terms_of bp bn)) (least_joins (terms_of ap an) (terms_of bp bn))
-        (λ l. SettledFrom (least_joins (terms_of ap an) (terms_of bp bn)) l t bp bn from) s₀ c₀.listed s kept (Some c)
+    pub so-far-end : length b.positives.now ≤ j
+        → Grown (least_between a b) (least_between a b)
+        (λ l. SettledFrom (least_between a b) l t b from) s₀ c₀.listed s kept (Some c)
     so-far-end le = (h.grew, h.keeps, h.room, λ i l m. h.done i l (lt_of_lt_of_le m le))

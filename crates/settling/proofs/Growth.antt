@@ -38,7 +38,7 @@ module _ {N : ℕ} {s : Bool → List ℕ} {count : ℕ} (f : Front N s count) {
       }
 
   module _ {s' : Bool → List ℕ} {c : ℕ} (g : Grew more s count s' c) where
-    pub grew-length : (b : Bool) → length (s' b) ≡ length (s b)
+    pub grew-length : (d : Bool) → length (s' d) ≡ length (s d)
     grew-length = filled-length (held s' c) s s' (evens f) c g.holds
 
     pub grew-front : ((t : Term) → Memᴰ t more → IsTerm N t) → Front N s' c

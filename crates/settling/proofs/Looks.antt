@@ -9,7 +9,8 @@ use Rattle.masks.proofs.Tests.{along, is_true}
 use Rattle.terms.specs.Term.{join, inside, conflict}
 use Rattle.terms.specs.declared.Term.{Term}
 use Rattle.terms.proofs.Terms.{join-l, inside-mono}
-use Rattle.lists.specs.Entries.{term_at}
+use Rattle.lists.specs.List.{nth}
+use Rattle.lists.specs.declared.list.TermList.{TermList}
 use Rattle.hints.specs.Kept.{kept_at}
 use Rattle.settling.specs.Sides.{KeptIn, Settled, SettledFrom}
 use Rattle.settling.specs.Tries.{Tries}
@@ -52,15 +53,15 @@ tried-settled {least} {l} {kept} {k} t u h p e = go (p.yes e)
         inr (record { term = kept_at kept j; is-listed = h.are-listed j m; is-least = h.are-least j m; is-inside = i })
 
 -- a kept term inside t settles all of its pairs
-pub row-covered : {least l : List Term} {kept : List ℕ} {k : ℕ} (t : Term) (bp bn : List ℕ) (from : ℕ) (hint : Option ℕ)
+pub row-covered : {least l : List Term} {kept : List ℕ} {k : ℕ} (t : Term) (b : TermList) (from : ℕ) (hint : Option ℕ)
     → KeptIn least l kept k → (h : ℕ) × (hint ≡ Some h) × (h < k) × (inside (kept_at kept h) t ≡ true)
-    → SettledFrom least l t bp bn from
-row-covered {least} {l} {kept} {k} t bp bn from hint keeps (h, n, m, i) j le lt =
+    → SettledFrom least l t b from
+row-covered {least} {l} {kept} {k} t b from hint keeps (h, n, m, i) j le lt =
     inr
     (record {
       term = kept_at kept h;
       is-listed = keeps.are-listed h m;
       is-least = keeps.are-least h m;
-      is-inside = is_true (inside (kept_at kept h) (join t (term_at bp bn j)))
-          (inside-mono (kept_at kept h) t (join t (term_at bp bn j)) (along (sym i) tt) (join-l t (term_at bp bn j)));
+      is-inside = is_true (inside (kept_at kept h) (join t (nth b j)))
+          (inside-mono (kept_at kept h) t (join t (nth b j)) (along (sym i) tt) (join-l t (nth b j)));
     })

@@ -3,13 +3,14 @@ use Rattle.std.specs.Prelude.{ℕ, ◌*◌, ◌≤◌, ◌<◌, ◌≡◌, Bool,
 use mathlib.Core.List.{List, [], Memᴰ}
 use Rattle.terms.specs.Lists.{insert, Rising}
 use Rattle.terms.specs.Order.{before}
-use Rattle.terms.specs.Term.{IsTerm, terms_of}
+use Rattle.terms.specs.Term.{IsTerm}
 use Rattle.terms.specs.declared.Term.{Term}
-use Rattle.lists.specs.Capacity.{max_capacity}
 use Rattle.lists.specs.List.{held}
+use Rattle.lists.specs.Capacity.{max_capacity}
+use Rattle.lists.specs.declared.list.TermList.{TermList}
 use Rattle.insertion.specs.Filled.{Filled}
 use Rattle.hints.specs.Kept.{kept_at}
-use Rattle.settling.specs.Sides.{SidesAt, least_joins, KeptIn}
+use Rattle.settling.specs.Sides.{SidesAt, least_between, KeptIn}
 use Rattle.settling.specs.declared.counts.Counts.{Counts}
 
 -- the first count entries hold terms over N variables, in order
@@ -46,10 +47,10 @@ Keeps t s kept c s' kept' (Some d) =
 Keeps t s kept c s' kept' None = Filled (insert (before []) t (held s c.listed)) s s' None
 
 -- a list grows by terms of two sides, and the kept terms are least joins
-pub record Growing (ap an bp bn : List ℕ) (s : Bool → List ℕ) (kept : List ℕ) (c : Counts) : Type 0 where
-  pub at : SidesAt ap an bp bn
+pub record Growing (a b : TermList) (s : Bool → List ℕ) (kept : List ℕ) (c : Counts) : Type 0 where
+  pub at : SidesAt a b
   pub front : Front at.sides.variables s c.listed
-  pub keeps : KeptIn (least_joins (terms_of ap an) (terms_of bp bn)) (held s c.listed) kept c.kept
+  pub keeps : KeptIn (least_between a b) (held s c.listed) kept c.kept
   pub room : length kept ≤ 2 * max_capacity
 
 -- it was to grow by some terms of `more` so that `done` holds of it; the kept terms are of `least`

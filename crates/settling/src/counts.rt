@@ -2,9 +2,10 @@
 ghost use Rattle.std.specs.Prelude.{◌≡◌, [], ◌*◌, ◌≤◌, length};
 ghost use Rattle.terms.specs.Lists.{Rising};
 ghost use Rattle.terms.specs.Order.{before};
-ghost use Rattle.lists.specs.List.{by_sign, held};
+ghost use Rattle.lists.specs.List.{held, slots};
 ghost use Rattle.settling.specs.Growth.{Keeps};
 
+use lists::list::TermBuffer;
 use terms::Term;
 
 // How many terms are listed, how many of them are kept at hand, and what the last row of joins cost.
@@ -18,19 +19,18 @@ pub struct Counts {
 // Lists t, and keeps it at hand where it is new and there is room. The counts then; none where there are more terms than the slices have
 // entries.
 pub fn keep(
-    positives: &mut [u64],
-    negatives: &mut [u64],
+    list: &mut TermBuffer,
     kept: &mut [u64],
     counts: Counts,
     t: Term,
 ) -> Option<Counts>
-    requires listed_in_bounds { (counts.listed ≤ length positives.old) × (length negatives.old ≡ length positives.old)
-        × Rising (before []) (held (by_sign positives.old negatives.old) counts.listed) }
+    requires listed_in_bounds { (counts.listed ≤ length list.old.positives.now)
+        × Rising (before []) (held (slots list.old) counts.listed) }
     requires kept_in_bounds { 2 * counts.kept ≤ length kept.old }
-    ensures { Keeps t (by_sign positives.old negatives.old) kept.old counts
-        (by_sign positives.new negatives.new) kept.new result }
+    ensures { Keeps t (slots list.old) kept.old counts
+        (slots list.new) kept.new result }
 {
-    let listed = insertion::insert(positives, negatives, counts.listed, t)?;
+    let listed = insertion::insert(list, counts.listed, t)?;
     let k = counts.kept;
     if counts.listed < listed && 2 * k + 2 <= kept.len() {
         hints::put_kept(kept, k, t);

@@ -2,17 +2,17 @@
 ghost use Rattle.std.specs.Prelude.{◌≡◌, true, false, ◌*◌, ◌≤◌, ◌<◌, length};
 ghost use mathlib.Core.List.{Memᴰ};
 ghost use Rattle.terms.specs.Joins.{joins};
-ghost use Rattle.terms.specs.Term.{conflict, terms_of};
+ghost use Rattle.terms.specs.Term.{conflict};
+ghost use Rattle.lists.specs.List.{held, nth, slots, terms_in};
 ghost use Rattle.lists.specs.Capacity.{max_capacity};
-ghost use Rattle.lists.specs.Entries.{term_at};
 ghost use Rattle.hints.specs.Scratch.{max_words, bit_words, HasColumns};
-ghost use Rattle.lists.specs.List.{by_sign, held};
 ghost use Rattle.settling.specs.Growth.{Growing, Grown};
-ghost use Rattle.settling.specs.Sides.{least_joins, Covered, Settled, SettledFrom};
+ghost use Rattle.settling.specs.Sides.{least_between, Covered, Settled, SettledFrom};
 ghost use Rattle.settling.specs.Tries.{Tries};
 
 use super::counts::{Counts, keep};
 use super::strike::strike;
+use lists::list::{TermBuffer, TermList};
 use terms::Term;
 
 // The places of two terms, one of each side, how far the list has grown, and whether the columns are made.
@@ -32,12 +32,12 @@ struct Tried {
 }
 
 // Makes the columns of b, unless they are made.
-fn make_columns(columns: &mut [u64], bp: &[u64], bn: &[u64], made: bool)
-    requires { HasColumns (bit_words (length bp.now)) columns.old × (length bn.now ≡ length bp.now)
-        × (length bp.now ≤ max_capacity) }
+fn make_columns(columns: &mut [u64], b: TermList, made: bool)
+    requires { HasColumns (bit_words (length b.positives.now)) columns.old
+        × (length b.positives.now ≤ max_capacity) }
 {
     if !made {
-        hints::fill_columns(columns, bp, bn);
+        hints::fill_columns(columns, b);
     }
 }
 
@@ -48,22 +48,21 @@ fn try_kept(
     hints: &mut [u16],
     columns: &mut [u64],
     left: &mut [u64],
-    bp: &[u64],
-    bn: &[u64],
+    b: TermList,
     t: Term,
     pair: Pair,
 ) -> Tried
     requires { (length kept.now ≤ 2 * max_capacity) × (2 * pair.counts.kept ≤ length kept.now)
-        × HasColumns (bit_words (length bp.now)) columns.old × (length left.old ≡ max_words)
-        × (length bn.now ≡ length bp.now) × (length bp.now ≤ max_capacity) × (pair.high < length bp.now) }
-    ensures { Tries kept.now pair.counts.kept t (term_at bp.now bn.now pair.high) result }
+        × HasColumns (bit_words (length b.positives.now)) columns.old × (length left.old ≡ max_words)
+        × (length b.positives.now ≤ max_capacity) × (pair.high < length b.positives.now) }
+    ensures { Tries kept.now pair.counts.kept t (nth b.entry pair.high) result }
 {
     let at = pair.high;
     let made = pair.made;
     let counts = pair.counts;
     let count = counts.kept;
     let cost = counts.cost;
-    let u = lists::term_at(bp, bn, at);
+    let u = b.at(at);
     if terms::conflict(t, u) {
         return Tried {
             settled: true,
@@ -83,8 +82,8 @@ fn try_kept(
             cost,
         };
     }
-    make_columns(columns, bp, bn, made);
-    let spent = hints::renew(hints, left, columns, kept, count, bp, bn, at, t);
+    make_columns(columns, b, made);
+    let spent = hints::renew(hints, left, columns, kept, count, b, at, t);
     let settled = hints::covers(kept, count, hints::hint_at(hints, at), q);
     Tried {
         settled,
@@ -94,52 +93,46 @@ fn try_kept(
 
 // Lists and keeps a least join inside the join q.
 fn add_least(
-    positives: &mut [u64],
-    negatives: &mut [u64],
+    list: &mut TermBuffer,
     kept: &mut [u64],
-    ap: &[u64],
-    an: &[u64],
-    bp: &[u64],
-    bn: &[u64],
+    a: TermList,
+    b: TermList,
     counts: Counts,
     q: Term,
 ) -> Option<Counts>
-    requires growing { Growing ap.now an.now bp.now bn.now (by_sign positives.old negatives.old) kept.old counts }
-    requires fact { Memᴰ q (joins (terms_of ap.now an.now) (terms_of bp.now bn.now)) }
-    ensures { Grown (least_joins (terms_of ap.now an.now) (terms_of bp.now bn.now))
-        (least_joins (terms_of ap.now an.now) (terms_of bp.now bn.now))
-        (λ l. Covered (least_joins (terms_of ap.now an.now) (terms_of bp.now bn.now)) l q)
-        (by_sign positives.old negatives.old) counts.listed
-        (by_sign positives.new negatives.new) kept.new result }
+    requires growing { Growing a b (slots list.old) kept.old counts }
+    requires fact { Memᴰ q (joins (terms_in a) (terms_in b)) }
+    ensures { Grown (least_between a.entry b.entry)
+        (least_between a.entry b.entry)
+        (λ l. Covered (least_between a.entry b.entry) l q)
+        (slots list.old) counts.listed
+        (slots list.new) kept.new result }
 {
-    let m = strike(ap, an, bp, bn, q);
-    keep(positives, negatives, kept, counts, m)
+    let m = strike(a, b, q);
+    keep(list, kept, counts, m)
 }
 
 // Settles a pair that is not yet settled.
 fn settle(
-    positives: &mut [u64],
-    negatives: &mut [u64],
+    list: &mut TermBuffer,
     kept: &mut [u64],
-    ap: &[u64],
-    an: &[u64],
-    bp: &[u64],
-    bn: &[u64],
+    a: TermList,
+    b: TermList,
     pair: Pair,
     tried: Tried,
 ) -> Option<Counts>
-    requires growing { Growing ap.now an.now bp.now bn.now (by_sign positives.old negatives.old) kept.old pair.counts }
-    requires low_in_bounds { (pair.low < length ap.now) × (pair.high < length bp.now) }
-    requires settled { (tried.settled ≡ true → Settled (least_joins (terms_of ap.now an.now) (terms_of bp.now bn.now))
-        (held (by_sign positives.old negatives.old) pair.counts.listed)
-        (term_at ap.now an.now pair.low) (term_at bp.now bn.now pair.high))
-        × (tried.settled ≡ false → conflict (term_at ap.now an.now pair.low) (term_at bp.now bn.now pair.high) ≡ false) }
-    ensures { Grown (least_joins (terms_of ap.now an.now) (terms_of bp.now bn.now))
-        (least_joins (terms_of ap.now an.now) (terms_of bp.now bn.now))
-        (λ l. Settled (least_joins (terms_of ap.now an.now) (terms_of bp.now bn.now)) l
-        (term_at ap.now an.now pair.low) (term_at bp.now bn.now pair.high))
-        (by_sign positives.old negatives.old) pair.counts.listed
-        (by_sign positives.new negatives.new) kept.new result }
+    requires growing { Growing a b (slots list.old) kept.old pair.counts }
+    requires low_in_bounds { (pair.low < length a.positives.now) × (pair.high < length b.positives.now) }
+    requires settled { (tried.settled ≡ true → Settled (least_between a b)
+        (held (slots list.old) pair.counts.listed)
+        (nth a pair.low) (nth b pair.high))
+        × (tried.settled ≡ false → conflict (nth a pair.low) (nth b pair.high) ≡ false) }
+    ensures { Grown (least_between a.entry b.entry)
+        (least_between a.entry b.entry)
+        (λ l. Settled (least_between a.entry b.entry) l
+        (nth a.entry pair.low) (nth b.entry pair.high))
+        (slots list.old) pair.counts.listed
+        (slots list.new) kept.new result }
 {
     let counts = pair.counts;
     let spent = Counts {
@@ -151,8 +144,8 @@ fn settle(
     }
     let i = pair.low;
     let j = pair.high;
-    let q = terms::join(lists::term_at(ap, an, i), lists::term_at(bp, bn, j));
-    add_least(positives, negatives, kept, ap, an, bp, bn, spent, q)
+    let q = terms::join(a.at(i), b.at(j));
+    add_least(list, kept, a, b, spent, q)
 }
 
 // Makes the last kept term, where it is new, the hint of the pairs of the row that it settles.
@@ -188,42 +181,39 @@ pub struct Row {
 
 // Settles a term of a with the terms of b from a place on.
 fn join_row(
-    positives: &mut [u64],
-    negatives: &mut [u64],
+    list: &mut TermBuffer,
     kept: &mut [u64],
     hints: &mut [u16],
     columns: &mut [u64],
-    ap: &[u64],
-    an: &[u64],
-    bp: &[u64],
-    bn: &[u64],
+    a: TermList,
+    b: TermList,
     row: Row,
 ) -> Option<Counts>
-    requires growing { Growing ap.now an.now bp.now bn.now (by_sign positives.old negatives.old) kept.old row.counts }
-    requires at_in_bounds { (row.at < length ap.now) × HasColumns (bit_words (length bp.now)) columns.old }
-    ensures { Grown (least_joins (terms_of ap.now an.now) (terms_of bp.now bn.now))
-        (least_joins (terms_of ap.now an.now) (terms_of bp.now bn.now))
-        (λ l. SettledFrom (least_joins (terms_of ap.now an.now) (terms_of bp.now bn.now)) l
-        (term_at ap.now an.now row.at) bp.now bn.now row.from)
-        (by_sign positives.old negatives.old) row.counts.listed
-        (by_sign positives.new negatives.new) kept.new result }
+    requires growing { Growing a b (slots list.old) kept.old row.counts }
+    requires at_in_bounds { (row.at < length a.positives.now) × HasColumns (bit_words (length b.positives.now)) columns.old }
+    ensures { Grown (least_between a.entry b.entry)
+        (least_between a.entry b.entry)
+        (λ l. SettledFrom (least_between a.entry b.entry) l
+        (nth a.entry row.at) b.entry row.from)
+        (slots list.old) row.counts.listed
+        (slots list.new) kept.new result }
 {
     let at = row.at;
     let made = row.made;
     let start = row.counts;
-    let t = lists::term_at(ap, an, at);
-    let words = hints::bit_words(bp.len());
+    let t = a.at(at);
+    let words = hints::bit_words(b.len());
     let mut left = [0u64; hints::MAX_WORDS];
     let mut counts = Counts { cost: 0, ..start };
-    for j in row.from..bp.len() {
+    for j in row.from..b.len() {
         let pair = Pair {
             low: at,
             high: j,
             counts,
             made,
         };
-        let tried = try_kept(kept, hints, columns, &mut left, bp, bn, t, pair);
-        let next = settle(positives, negatives, kept, ap, an, bp, bn, pair, tried)?;
+        let tried = try_kept(kept, hints, columns, &mut left, b, t, pair);
+        let next = settle(list, kept, a, b, pair, tried)?;
         spread_new(
             kept,
             hints,
@@ -241,34 +231,31 @@ fn join_row(
 
 // Settles a term of a with the terms of b from a place on: at once where the kept term at its hint is inside it.
 pub fn settle_row(
-    positives: &mut [u64],
-    negatives: &mut [u64],
+    list: &mut TermBuffer,
     kept: &mut [u64],
     hints: &mut [u16],
     columns: &mut [u64],
-    ap: &[u64],
-    an: &[u64],
-    bp: &[u64],
-    bn: &[u64],
+    a: TermList,
+    b: TermList,
     row: Row,
 ) -> Option<Counts>
-    requires growing { Growing ap.now an.now bp.now bn.now (by_sign positives.old negatives.old) kept.old row.counts }
-    requires at_in_bounds { (row.at < length ap.now) × HasColumns (bit_words (length bp.now)) columns.old }
-    ensures { Grown (least_joins (terms_of ap.now an.now) (terms_of bp.now bn.now))
-        (least_joins (terms_of ap.now an.now) (terms_of bp.now bn.now))
-        (λ l. SettledFrom (least_joins (terms_of ap.now an.now) (terms_of bp.now bn.now)) l
-        (term_at ap.now an.now row.at) bp.now bn.now row.from)
-        (by_sign positives.old negatives.old) row.counts.listed
-        (by_sign positives.new negatives.new) kept.new result }
+    requires growing { Growing a b (slots list.old) kept.old row.counts }
+    requires at_in_bounds { (row.at < length a.positives.now) × HasColumns (bit_words (length b.positives.now)) columns.old }
+    ensures { Grown (least_between a.entry b.entry)
+        (least_between a.entry b.entry)
+        (λ l. SettledFrom (least_between a.entry b.entry) l
+        (nth a.entry row.at) b.entry row.from)
+        (slots list.old) row.counts.listed
+        (slots list.new) kept.new result }
 {
     let at = row.at;
     let counts = row.counts;
     let count = counts.kept;
     let hint = row.hint;
-    if hints::covers(kept, count, hint, lists::term_at(ap, an, at)) {
+    if hints::covers(kept, count, hint, a.at(at)) {
         return Some(counts);
     }
     join_row(
-        positives, negatives, kept, hints, columns, ap, an, bp, bn, row,
+        list, kept, hints, columns, a, b, row,
     )
 }

@@ -1,8 +1,7 @@
 -- `decisions::decide` meets its contract: one side, the other, and all pairs.
 use mathlib.Core.List.{List}
-use Rattle.terms.specs.Term.{terms_of}
 use Rattle.terms.specs.declared.Term.{Term}
-use Rattle.lists.specs.List.{by_sign}
+use Rattle.lists.specs.List.{slots, terms_in}
 use Rattle.decisions.specs.Extended.{Extending}
 use Rattle.decisions.proofs.Whole.{first, second, third, over₁, over₂, over₃, ends}
 use Rattle.decisions.proofs.decide.Goals as goal
@@ -11,15 +10,15 @@ use Rattle.decisions.proofs.decide.Goals.{Start}
 -- the sides, and the slices at first
 module _ (c : Start) where
   abbrev low : List Term
-  low = terms_of c.args.ap.now c.args.an.now
+  low = terms_in c.args.a
 
   abbrev high : List Term
-  high = terms_of c.args.bp.now c.args.bn.now
+  high = terms_in c.args.b
 
-  abbrev begun : Extending c.args.x c.args.ap.now c.args.an.now c.args.bp.now c.args.bn.now
-      (by_sign c.args.positives.now c.args.negatives.now) c.args.kept.now (record { listed = 0; kept = 0; cost = 0 })
+  abbrev begun : Extending c.args.x c.args.a c.args.b
+      (slots c.args.list.now) c.args.kept.now (record { listed = 0; kept = 0; cost = 0 })
   begun =
-      first c.requires.decided_at (by_sign c.args.positives.now c.args.negatives.now) c.args.kept.now c.requires.negatives_len.0
+      first c.requires.decided_at (slots c.args.list.now) c.args.kept.now c.requires.negatives_len.0
       c.requires.negatives_len.1
 
 pub list_side-requires : goal.list_side-requires

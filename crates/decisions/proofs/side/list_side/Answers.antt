@@ -31,7 +31,7 @@ find_inside-found-requires c =
       terms = record {
         over = h.sides.variables;
         wide = h.sides.wide;
-        is_term = subst (IsTerm h.sides.variables) (sym c.term_at-t.ensures)
+        is_term = subst (IsTerm h.sides.variables) (sym c.at-t.ensures)
             (low-terms h.sides _ (low-in h c.loop-k.k c.loop-k-test.true));
         terms = high-terms h.sides;
       };
@@ -43,7 +43,7 @@ list_one-requires c =
       extending = side-extending c.requires x.literal.sign c.loop-k.invariant.0;
       at_in_bounds = (
         c.loop-k-test.true,
-        subst (λ (t : Term). FoundInside x.bp.now x.bn.now t c.find_inside-found.result) c.term_at-t.ensures
+        subst (λ (t : Term). FoundInside x.b t c.find_inside-found.result) c.at-t.ensures
             c.find_inside-found.ensures,
       );
     }

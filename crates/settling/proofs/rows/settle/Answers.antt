@@ -3,10 +3,10 @@ use mathlib.Core.Path.{sym, ap₂, subst, ◌∙◌}
 use mathlib.Core.Logic.{inr}
 use mathlib.Core.List.{List, Memᴰ}
 use Rattle.terms.specs.Joins.{joins}
-use Rattle.terms.specs.Term.{join, terms_of}
+use Rattle.terms.specs.Term.{join}
 use Rattle.terms.specs.declared.Term.{Term}
-use Rattle.lists.specs.Entries.{term_at}
-use Rattle.settling.specs.Sides.{least_joins, Covered, Settled}
+use Rattle.lists.specs.List.{nth, terms_in}
+use Rattle.settling.specs.Sides.{least_between, Covered, Settled}
 use Rattle.settling.proofs.Down.{low-in, high-in}
 use Rattle.settling.proofs.Growth.{grew_none}
 use Rattle.settling.proofs.Grows.{recounted, grown-so}
@@ -23,8 +23,8 @@ add_least-requires c =
     let x = c.args in
     let h = c.requires.growing.at in record {
       growing = recounted c.requires.growing x.tried.cost;
-      fact = subst (λ (q : Term). Memᴰ q (joins (terms_of x.ap.now x.an.now) (terms_of x.bp.now x.bn.now)))
-          (sym (c.join-q.ensures ∙ ap₂ join c.term_at.ensures c.term_at-2.ensures))
+      fact = subst (λ (q : Term). Memᴰ q (joins (terms_in x.a) (terms_in x.b)))
+          (sym (c.join-q.ensures ∙ ap₂ join c.at.ensures c.at-2.ensures))
           (joined h.sides _ _ (low-in h x.pair.low c.requires.low_in_bounds.0) (high-in h x.pair.high c.requires.low_in_bounds.1)
           (c.requires.settled.1 c.if-tried.false));
     }
@@ -32,8 +32,8 @@ add_least-requires c =
 pub returns : goal.returns
 returns c =
     let x = c.args in
-    let least : List Term = least_joins (terms_of x.ap.now x.an.now) (terms_of x.bp.now x.bn.now) in
+    let least : List Term = least_between x.a x.b in
     grown-so least least (λ l. Covered least l c.join-q.result)
-    (λ l. Settled least l (term_at x.ap.now x.an.now x.pair.low) (term_at x.bp.now x.bn.now x.pair.high)) _ _ _ _
+    (λ l. Settled least l (nth x.a x.pair.low) (nth x.b x.pair.high)) _ _ _ _
     c.add_least.result
-    (λ l d. inr (subst (Covered least l) (c.join-q.ensures ∙ ap₂ join c.term_at.ensures c.term_at-2.ensures) d)) c.add_least.ensures
+    (λ l d. inr (subst (Covered least l) (c.join-q.ensures ∙ ap₂ join c.at.ensures c.at-2.ensures) d)) c.add_least.ensures

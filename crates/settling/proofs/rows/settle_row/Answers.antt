@@ -5,7 +5,7 @@ use mathlib.Core.Bool.{true}
 use Rattle.std.specs.Prelude.{Some}
 use Rattle.terms.specs.Term.{inside}
 use Rattle.terms.specs.declared.Term.{Term}
-use Rattle.lists.specs.Entries.{term_at}
+use Rattle.lists.specs.List.{nth}
 use Rattle.hints.specs.Kept.{kept_at}
 use Rattle.settling.proofs.Growth.{grew_none}
 use Rattle.settling.proofs.Looks.{row-covered}
@@ -17,9 +17,9 @@ returns-then-covers c =
     let g = c.requires.growing in
     let found =
     subst (λ (t : Term). (h : ℕ) × (x.row.hint ≡ Some h) × (h < x.row.counts.kept) × (inside (kept_at x.kept.now h) t ≡ true))
-    c.term_at.ensures (c.covers.ensures c.if-covers.true) in (
+    c.at.ensures (c.covers.ensures c.if-covers.true) in (
       grew_none g.front,
       g.keeps,
       g.room,
-      row-covered (term_at x.ap.now x.an.now x.row.at) x.bp.now x.bn.now x.row.from x.row.hint g.keeps found,
+      row-covered (nth x.a x.row.at) x.b x.row.from x.row.hint g.keeps found,
     )

@@ -3,11 +3,12 @@ use mathlib.Core.Path.{◌≡◌}
 use mathlib.Core.Bool.{true}
 use mathlib.Core.List.{Memᴰ}
 use Rattle.terms.specs.Joins.{joins}
-use Rattle.terms.specs.Term.{literals, inside, terms_of}
+use Rattle.terms.specs.Term.{literals, inside}
+use Rattle.lists.specs.List.{terms_in}
 use Rattle.settling.proofs.strike.strike.Given as goal
 
 abbrev pub invariant-loop-k : goal.invariant-loop-k
-invariant-loop-k l = Memᴰ l.t (joins (terms_of l.ap l.an) (terms_of l.bp l.bn)) × (inside l.t l.initial.t ≡ true)
+invariant-loop-k l = Memᴰ l.t (joins (terms_in l.a) (terms_in l.b)) × (inside l.t l.initial.t ≡ true)
 
 abbrev pub decreases-loop-k : goal.decreases-loop-k
 decreases-loop-k l = literals l.t

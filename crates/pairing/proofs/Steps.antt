@@ -1,6 +1,6 @@
 -- Steps through the pairs of two sides, from either side.
 use Prim.Native.Nat.{ℕ, ◌+◌, ◌*◌, ◌≤◌, ◌<◌}
-use mathlib.Core.Path.{◌≡◌, sym, ap, subst}
+use mathlib.Core.Path.{◌≡◌, sym, subst}
 use mathlib.Core.Bool.{Bool}
 use mathlib.Core.Logic.{◌⊎◌, inl, inr, ⊎_elim, ⊎_map}
 use mathlib.Core.List.{List, Memᴰ}
@@ -44,8 +44,6 @@ kept-wider h k = record { room = k.room; are-listed = k.are-listed; are-least = 
 abbrev pub at-turned : {a b : TermList} → SidesAt a b → SidesAt b a
 at-turned h =
     record {
-      even-low = h.even-high;
-      even-high = h.even-low;
       few-low = h.few-high;
       few-high = h.few-low;
       sides = turned h.sides;
@@ -62,7 +60,7 @@ growing-turned g =
     }
 
 -- ---- one row more
-abbrev Done : List ℕ → List ℕ → List ℕ → List ℕ → ℕ → ℕ → List Term → ℕ → ℕ → Type 0
+abbrev Done : TermList → TermList → ℕ → ℕ → List Term → ℕ → ℕ → Type 0
 Done a b low high l i j =
     ((i < low) ⊎ (j < high)) ⊎ Settled (least_between a b) l (nth a i) (nth b j)
 

@@ -15,7 +15,7 @@ pub record Paired (a b : TermList) (s : Bool → List ℕ) (kept : List ℕ) (t 
   pub high-left : t.high.at < length b.positives.now
 
 -- the list grew by least joins so that one row of pairs more is settled
-abbrev pub Turns : List ℕ → List ℕ → List ℕ → List ℕ → (Bool → List ℕ) → Turn → (Bool → List ℕ) → List ℕ → Option Turn → Type 0
+abbrev pub Turns : TermList → TermList → (Bool → List ℕ) → Turn → (Bool → List ℕ) → List ℕ → Option Turn → Type 0
 Turns a b s t s' kept' (Some u) =
     let least : List Term = least_between a b in
     Grew least s t.listed s' u.listed × KeptIn least (held s' u.listed) kept' u.kept × (length kept' ≤ 2 * max_capacity)

@@ -162,7 +162,7 @@ fn step_high(
 
 // The next row of the high side is settled at once: the kept term at its hint is inside its term.
 fn is_high_settled(kept: &[u64], hints: &[u16], b: TermList, turn: Turn) -> bool
-    requires { (2 * turn.kept ≤ length kept.now) × (turn.high.at < length b.positives.now) × (turn.high.at < length bn.now)
+    requires { (2 * turn.kept ≤ length kept.now) × (turn.high.at < length b.positives.now)
         × (turn.high.at < max_capacity) }
 {
     let high = turn.high;

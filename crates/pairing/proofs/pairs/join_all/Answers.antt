@@ -28,5 +28,5 @@ loop-turn-preserved c =
 pub returns-after-loop-turn : goal.returns-after-loop-turn
 returns-after-loop-turn c = pairs_end c.requires.growing c.loop-turn.invariant 0 (inl (omega arith))
 
-pub returns-else-turn-bp : goal.returns-else-turn-bp
-returns-else-turn-bp c = pairs_end c.requires.growing c.loop-turn.invariant 0 (inr (omega arith))
+pub returns-else-turn-len : goal.returns-else-turn-len
+returns-else-turn-len c = pairs_end c.requires.growing c.loop-turn.invariant 0 (inr (omega arith))

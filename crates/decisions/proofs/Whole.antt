@@ -26,12 +26,12 @@ use Rattle.settling.proofs.Least.{least-terms, least-turned, all_listed, place_o
 use Rattle.decisions.proofs.OneSide.{side-terms}
 use Rattle.pairing.proofs.Steps.{growing-turned, grew-wider, over-wider}
 
-module _ {x : ℕ} {a b : TermList} (h : DecidedAt x a b) where
+module _ {x : ℕ} {p q : TermList} (h : DecidedAt x p q) where
   abbrev a : List Term
-  a = terms_in a
+  a = terms_in p
 
   abbrev b : List Term
-  b = terms_in b
+  b = terms_in q
 
   abbrev whole : List Term
   whole = decision_terms x a b
@@ -59,7 +59,7 @@ module _ {x : ℕ} {a b : TermList} (h : DecidedAt x a b) where
 
   -- ---- the first side
   pub first : (s₀ : Bool → List ℕ) (kept₀ : List ℕ) → length (s₀ false) ≡ length (s₀ true) → length kept₀ ≤ 2 * max_capacity
-      → Extending x a b s₀ kept₀ (record { listed = 0; kept = 0; cost = 0 })
+      → Extending x p q s₀ kept₀ (record { listed = 0; kept = 0; cost = 0 })
   first s₀ kept₀ ev room =
       record {
         growing = record {
@@ -76,9 +76,9 @@ module _ {x : ℕ} {a b : TermList} (h : DecidedAt x a b) where
         free = h.not_low;
       }
 
-  module _ {s₀ : Bool → List ℕ} {kept₀ : List ℕ} (f : Extending x a b s₀ kept₀ (record { listed = 0; kept = 0; cost = 0 })) where
+  module _ {s₀ : Bool → List ℕ} {kept₀ : List ℕ} (f : Extending x p q s₀ kept₀ (record { listed = 0; kept = 0; cost = 0 })) where
     -- the same list, the sides the other way round
-    abbrev other : Extending x b a s₀ kept₀ (record { listed = 0; kept = 0; cost = 0 })
+    abbrev other : Extending x q p s₀ kept₀ (record { listed = 0; kept = 0; cost = 0 })
     other = record { growing = growing-turned f.growing; below = f.below; free = h.not-high }
 
     whole-terms : (t : Term) → Memᴰ t whole → IsTerm f.growing.at.sides.variables t
@@ -97,7 +97,7 @@ module _ {x : ℕ} {a b : TermList} (h : DecidedAt x a b) where
     -- ---- then the second
     module _ (s₁ : Bool → List ℕ) (kept₁ : List ℕ) (c : Counts)
         (g₁ : Grown (side_terms x false a b) (least_joins a b) (ListsSide x false a b) s₀ 0 s₁ kept₁ (Some c)) where
-      abbrev pub second : Extending x b a s₁ kept₁ c
+      abbrev pub second : Extending x q p s₁ kept₁ c
       second =
           record {
             growing = growing-turned
@@ -122,7 +122,7 @@ module _ {x : ℕ} {a b : TermList} (h : DecidedAt x a b) where
       -- ---- then the joins
       module _ (s₂ : Bool → List ℕ) (kept₂ : List ℕ) (d : Counts)
           (g₂ : Grown (side_terms x true b a) (least_joins b a) (ListsSide x true b a) s₁ c.listed s₂ kept₂ (Some d)) where
-        pub third : Growing a b s₂ kept₂ d
+        pub third : Growing p q s₂ kept₂ d
         third =
             growing-turned
             (record {
@@ -140,7 +140,7 @@ module _ {x : ℕ} {a b : TermList} (h : DecidedAt x a b) where
 
         -- ---- and that is all
         pub ends : (s₃ : Bool → List ℕ) (kept₃ : List ℕ) (e : Counts)
-            → Grown (least_joins a b) (least_joins a b) (λ l. AllSettled (least_joins a b) l a b) s₂ d.listed s₃ kept₃ (Some e)
+            → Grown (least_joins a b) (least_joins a b) (λ l. AllSettled (least_joins a b) l p q) s₂ d.listed s₃ kept₃ (Some e)
             → Filled (sort (before []) whole) s₀ s₃ (Some e.listed)
         unfolding decision_terms
         ends s₃ kept₃ e g₃ =
@@ -149,10 +149,10 @@ module _ {x : ℕ} {a b : TermList} (h : DecidedAt x a b) where
           where
             settled : (t u : Term) → Memᴰ t a → Memᴰ u b → Settled (least_joins a b) (held s₃ e.listed) t u
             settled t u m n =
-                let (i, l, p) = place_of a.positives.now a.negatives.now t a.same_length m in
-                let (j, k, q) = place_of b.positives.now b.negatives.now u b.same_length n in
-                subst (λ (v : Term). Settled (least_joins a b) (held s₃ e.listed) v u) (sym p)
-                (subst (Settled (least_joins a b) (held s₃ e.listed) (nth a i)) (sym q) (g₃.3 i j l k))
+                let (i, l, d) = place_of p.positives.now p.negatives.now t p.same_length m in
+                let (j, k, f) = place_of q.positives.now q.negatives.now u q.same_length n in
+                subst (λ (v : Term). Settled (least_joins a b) (held s₃ e.listed) v u) (sym d)
+                (subst (Settled (least_joins a b) (held s₃ e.listed) (nth p i)) (sym f) (g₃.3 i j l k))
 
             all : (t : Term) → Memᴰ t whole → Memᴰ t (held s₃ e.listed)
             all t m =

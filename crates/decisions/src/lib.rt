@@ -14,9 +14,9 @@ ghost use Rattle.decisions.specs.Sizes.{short_side};
 
 mod side;
 
-use lists::list::{TermBuffer, TermList};
 use hints::{LITERALS, NO_PLACE, WORD_BITS};
 use lists::MAX_CAPACITY;
+use lists::list::{TermBuffer, TermList};
 use pairing::pairs::join_all;
 use settling::counts::Counts;
 use side::{Literal, list_side};
@@ -70,12 +70,9 @@ fn decide(
     x: u32,
 ) -> Option<usize>
     requires decided_at { DecidedAt x a b }
-    requires negatives_len { × (length kept.old ≤ 2 * max_capacity) }
+    requires kept_len { length kept.old ≤ 2 * max_capacity }
     requires has_halves { HasHalves (length a.positives.now) (length b.positives.now) columns.old }
-    ensures { Filled
-        (sort (before []) (decision_terms x (terms_in a.entry) (terms_in b.entry)))
-        (slots list.old)
-        (slots list.new) result }
+    ensures { Filled (sort (before []) (decision_terms x (terms_in a.entry) (terms_in b.entry))) (slots list.old) (slots list.new) result }
 {
     let none = Counts {
         listed: 0,
@@ -92,9 +89,7 @@ fn decide(
     };
     let c = list_side(list, kept, hints, a, b, no, none)?;
     let d = list_side(list, kept, hints, b, a, yes, c)?;
-    let e = join_all(
-        list, kept, hints, columns, a, b, d,
-    )?;
+    let e = join_all(list, kept, hints, columns, a, b, d)?;
     Some(e.listed)
 }
 
@@ -106,26 +101,14 @@ fn decide_with<const KEPT: usize, const HINTS: usize, const COLUMNS: usize>(
     x: u32,
 ) -> Option<usize>
     requires decided_at { DecidedAt x a b }
-    requires negatives_len { length negatives.old ≡ length list.old.positives.now }
     requires sizes { (KEPT ≤ 2 * max_capacity) × (HINTS ≤ 2 * max_capacity) × (COLUMNS ≤ 2 * column_count * max_words) }
     requires has_halves { HasHalves (length a.positives.now) (length b.positives.now) (replicate COLUMNS 0) }
-    ensures { Filled
-        (sort (before []) (decision_terms x (terms_in a.entry) (terms_in b.entry)))
-        (slots list.old)
-        (slots list.new) result }
+    ensures { Filled (sort (before []) (decision_terms x (terms_in a.entry) (terms_in b.entry))) (slots list.old) (slots list.new) result }
 {
     let mut kept = [0u64; KEPT];
     let mut hints = [NO_PLACE; HINTS];
     let mut columns = [0u64; COLUMNS];
-    decide(
-        list,
-        &mut kept,
-        &mut hints,
-        &mut columns,
-        a,
-        b,
-        x,
-    )
+    decide(list, &mut kept, &mut hints, &mut columns, a, b, x)
 }
 
 // There are few least joins: they are joins of m and n terms, and no more than the capacity are listed.
@@ -137,34 +120,19 @@ fn has_few_joins(m: usize, n: usize, capacity: usize) -> bool
 
 // Makes the terms of a decision by x from those of its sides: a where x is no, b where it is yes. Scratch is zeroed when it is made, so
 // that short sides have little.
-pub fn decision(
-    list: &mut TermBuffer,
-    a: TermList,
-    b: TermList,
-    x: u32,
-) -> Option<usize>
-    requires decided_at { DecidedAt x a b }
-    requires negatives_len { length negatives.old ≡ length list.old.positives.now }
-    ensures { Filled
-        (sort (before []) (decision_terms x (terms_in a.entry) (terms_in b.entry)))
-        (slots list.old)
-        (slots list.new) result }
+pub fn decision(list: &mut TermBuffer, a: TermList, b: TermList, x: u32) -> Option<usize>
+    requires { DecidedAt x a b }
+    ensures { Filled (sort (before []) (decision_terms x (terms_in a.entry) (terms_in b.entry))) (slots list.old) (slots list.new) result }
 {
     let longer = a.len().max(b.len());
     if longer > MIDDLE {
-        return decide_with::<ALL_KEPT, LONG_HINTS, LONG_COLUMNS>(
-            list, a, b, x,
-        );
+        return decide_with::<ALL_KEPT, LONG_HINTS, LONG_COLUMNS>(list, a, b, x);
     }
     if longer > SHORT {
-        return decide_with::<ALL_KEPT, MIDDLE_HINTS, MIDDLE_COLUMNS>(
-            list, a, b, x,
-        );
+        return decide_with::<ALL_KEPT, MIDDLE_HINTS, MIDDLE_COLUMNS>(list, a, b, x);
     }
     if has_few_joins(a.len(), b.len(), list.positives.len()) {
-        return decide_with::<FEW_KEPT, SHORT_HINTS, SHORT_COLUMNS>(
-            list, a, b, x,
-        );
+        return decide_with::<FEW_KEPT, SHORT_HINTS, SHORT_COLUMNS>(list, a, b, x);
     }
     decide_with::<SOME_KEPT, SHORT_HINTS, SHORT_COLUMNS>(list, a, b, x)
 }

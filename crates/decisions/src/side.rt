@@ -8,8 +8,8 @@ ghost use Rattle.decisions.specs.Extended.{Extending, side_terms, ListsOne, List
 ghost use Rattle.settling.specs.Sides.{least_between};
 
 use lists::MAX_CAPACITY;
-use settling::counts::{Counts, keep};
 use lists::list::{TermBuffer, TermList};
+use settling::counts::{Counts, keep};
 use terms::Term;
 
 // A literal: a variable and its sign.
@@ -106,9 +106,7 @@ pub fn list_side(
         end = subsumption::end_ahead(b, end, t);
         let found = subsumption::find_inside(b, end, guess, t);
         let one = One { at: k, found };
-        let next = list_one(
-            list, kept, a, b, literal, counts, one,
-        )?;
+        let next = list_one(list, kept, a, b, literal, counts, one)?;
         if counts.kept < next.kept {
             hints::set_hint(hints, hint_place(hints, literal.sign, k), counts.kept);
         }

@@ -18,8 +18,8 @@ module _ (c : Start) where
   abbrev begun : Extending c.args.x c.args.a c.args.b
       (slots c.args.list.now) c.args.kept.now (record { listed = 0; kept = 0; cost = 0 })
   begun =
-      first c.requires.decided_at (slots c.args.list.now) c.args.kept.now c.requires.negatives_len.0
-      c.requires.negatives_len.1
+      first c.requires.decided_at (slots c.args.list.now) c.args.kept.now c.args.list.now.same_length
+      c.requires.kept_len
 
 pub list_side-requires : goal.list_side-requires
 list_side-requires c = begun (goal.at.list_side-requires c).Start

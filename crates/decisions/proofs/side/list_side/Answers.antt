@@ -12,19 +12,13 @@ pub loop-k-init : goal.loop-k-init
 loop-k-init c =
     (side-start c.requires c.args.literal.sign, omega arith)
 
-pub term_at-t-requires : goal.term_at-t-requires
-term_at-t-requires c = let h = c.requires.growing.at in omega (arith, c.loop-k-test.true, h.even-low)
-
 pub end_ahead-end-requires : goal.end_ahead-end-requires
-end_ahead-end-requires c =
-    let h = c.requires.growing.at in
-    record { negatives_len = (h.even-high, c.loop-k.invariant.1); rising = h.sides.rising-high }
+end_ahead-end-requires c = (c.loop-k.invariant.1, c.requires.growing.at.sides.rising-high)
 
 pub find_inside-found-requires : goal.find_inside-found-requires
 find_inside-found-requires c =
     let h = c.requires.growing.at in
     record {
-      even = h.even-high;
       within = c.end_ahead-end.ensures.1;
       rising = h.sides.rising-high;
       none = c.end_ahead-end.ensures.2;
@@ -32,7 +26,7 @@ find_inside-found-requires c =
         over = h.sides.variables;
         wide = h.sides.wide;
         is_term = subst (IsTerm h.sides.variables) (sym c.at-t.ensures)
-            (low-terms h.sides _ (low-in h c.loop-k.k c.loop-k-test.true));
+            (low-terms h.sides _ (low-in h c.loop-k.k (omega (arith, c.loop-k-test.true))));
         terms = high-terms h.sides;
       };
     }
@@ -42,7 +36,7 @@ list_one-requires c =
     let x = c.args in record {
       extending = side-extending c.requires x.literal.sign c.loop-k.invariant.0;
       at_in_bounds = (
-        c.loop-k-test.true,
+        omega (arith, c.loop-k-test.true),
         subst (λ (t : Term). FoundInside x.b t c.find_inside-found.result) c.at-t.ensures
             c.find_inside-found.ensures,
       );
@@ -58,4 +52,4 @@ loop-k-preserved c =
     (side-next c.requires c.args.literal.sign c.loop-k.invariant.0 g.0 g.1 g.2 g.3, c.end_ahead-end.ensures.1)
 
 pub returns : goal.returns
-returns c = side-end c.requires c.args.literal.sign c.loop-k.invariant.0 c.loop-k-test.false
+returns c = side-end c.requires c.args.literal.sign c.loop-k.invariant.0 (omega (arith, c.loop-k-test.false))

@@ -140,7 +140,8 @@ fn fill_part(
         (take part.low.count (drop part.low.from negatives.old))
         (take part.high.count (drop part.high.from positives.old))
         (take part.high.count (drop part.high.from negatives.old)) }
-    requires capacity_le_max_capacity { (part.capacity ≤ max_capacity) × (part.low.count ≤ part.capacity) × (part.high.count ≤ part.capacity)
+    requires capacity_le_max_capacity { (part.capacity ≤ max_capacity) × (part.low.count ≤ part.capacity)
+        × (part.high.count ≤ part.capacity)
         × (part.low.from + part.capacity ≤ length positives.old) × (part.high.from + part.capacity ≤ length positives.old)
         × (part.at + part.capacity ≤ length positives.old) × (length negatives.old ≡ length positives.old) }
     requires has_place { HasPlace part.capacity ap.old an.old bp.old bn.old }

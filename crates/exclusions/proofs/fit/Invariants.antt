@@ -1,9 +1,8 @@
 -- `exclusions::fit` meets its contract. The loop's invariant: the first i pairs are of two different variables.
-use Prim.Native.Nat.{ℕ, ◌-◌, ◌≤◌}
+use Prim.Native.Nat.{ℕ}
 use mathlib.Core.Path.{◌≡◌}
 use mathlib.Core.Bool.{Bool, true}
 use mathlib.Core.List.{List}
-use lib.ListN.{length}
 use Rattle.masks.specs.Numbers.{every}
 use Rattle.exclusions.specs.Exclusions.{exclusions, first_at, second_at, distinct}
 use Rattle.exclusions.proofs.fit.Given as goal
@@ -13,7 +12,4 @@ abbrev pub fits : ℕ → List ℕ → List ℕ → ℕ → Bool
 fits N fs ss i = distinct N (first_at (exclusions fs ss) i) (second_at (exclusions fs ss) i)
 
 abbrev pub invariant-loop-i : goal.invariant-loop-i
-invariant-loop-i l = (l.i ≤ length l.firsts) × (every l.i (fits l.variables l.firsts l.seconds) ≡ true)
-
-abbrev pub decreases-loop-i : goal.decreases-loop-i
-decreases-loop-i l = length l.firsts - l.i
+invariant-loop-i l = every l.i (fits l.variables l.firsts l.seconds) ≡ true

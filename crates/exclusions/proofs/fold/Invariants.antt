@@ -1,6 +1,5 @@
 -- `exclusions::fold` meets its contract. The loop's invariant: the first i pairs are folded.
-use Prim.Native.Nat.{◌-◌, ◌^◌, ◌<◌, ◌≤◌}
-use mathlib.Core.Path.{◌≡◌}
+use Prim.Native.Nat.{◌^◌, ◌<◌}
 use lib.ListN.{length}
 use Rattle.exclusions.specs.Exclusions.{exclusions}
 use Rattle.exclusions.specs.Partners.{Folded}
@@ -8,9 +7,5 @@ use Rattle.exclusions.proofs.fold.Given as goal
 
 abbrev pub invariant-loop-i : goal.invariant-loop-i
 invariant-loop-i l =
-    (l.i ≤ length l.firsts) × (length l.partners ≡ length l.initial.partners)
-    × Folded (exclusions l.firsts l.seconds) l.i l.partners l.heads
+    Folded (exclusions l.firsts l.seconds) l.i l.partners l.heads
     × (l.heads < 2 ^ length l.initial.partners)
-
-abbrev pub decreases-loop-i : goal.decreases-loop-i
-decreases-loop-i l = length l.firsts - l.i

@@ -8,19 +8,17 @@ use Rattle.lists.proofs.is_short.Goals.{After-inside}
 
 -- what the definition gives, by what the first test said
 told : (c : After-inside) (q : Bool) → c.inside.result ≡ q
-    → let x = c.before.args in
+    → let x = c.args in
     short x.t x.a x.b ≡ (q && not (inside x.t (join x.a x.b)))
 unfolding short
 told c q e =
-    let x = c.before.args in
+    let x = c.args in
     ap (λ (r : Bool). r && not (inside x.t (join x.a x.b))) (sym c.inside.ensures ∙ e)
 
 pub returns-then-inside : goal.returns-then-inside
 returns-then-inside c =
-    let j = c.before in
-    let e = j.before in
-    let x = e.before.before.args in
-    ap not (c.inside-then-inside.ensures ∙ ap (inside x.t) j.join.ensures) ∙ sym (told e.before _ e.if-inside.true)
+    ap not (c.inside-then-inside.ensures ∙ ap (inside c.args.t) c.join.ensures)
+    ∙ sym (told (goal.at.returns-then-inside c).After-inside _ c.if-inside.true)
 
 pub returns : goal.returns
-returns c = sym (told c.before _ c.if-inside.false)
+returns c = sym (told (goal.at.returns c).After-inside _ c.if-inside.false)

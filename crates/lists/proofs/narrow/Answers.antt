@@ -9,17 +9,17 @@ use Rattle.lists.proofs.narrow.Goals.{After-inside}
 
 -- what the definition gives, by what the test said
 told : (c : After-inside) (q : Bool) → c.inside.result ≡ q
-    → let x = c.before.args in
+    → let x = c.args in
     narrowed x.t x.c x.b
     ≡ cond q (term (bit_and x.c.positive x.b.positive) (bit_and x.c.negative x.b.negative)) x.c
 unfolding narrowed
 told c q e =
-    let x = c.before.args in
+    let x = c.args in
     ap (λ (r : Bool). cond r (term (bit_and x.c.positive x.b.positive) (bit_and x.c.negative x.b.negative)) x.c)
     (sym c.inside.ensures ∙ e)
 
 pub returns-then-inside : goal.returns-then-inside
-returns-then-inside c = let e = c.before.before.before.before in sym (told e.before _ e.if-inside.true)
+returns-then-inside c = sym (told (goal.at.returns-then-inside c).After-inside _ c.if-inside.true)
 
 pub returns : goal.returns
-returns c = sym (told c.before _ c.if-inside.false)
+returns c = sym (told (goal.at.returns c).After-inside _ c.if-inside.false)

@@ -10,12 +10,6 @@ use Rattle.nodes.proofs.child_at.Goals as goal
 
 pub overflow_mul-result : goal.overflow_mul-result
 overflow_mul-result c =
-    let s = c.before.before.before in
-    let k : ℕ = get_or s.args.part.children.nodes s.args.k 0 in
-    let small : k ≤ max_nodes = le_of_lt (lt_of_lt_of_le s.requires.k_lt_max_children.1 s.requires.counts_len_bound.0) in
-    omega (arith, product_le k s.args.part.capacity max_nodes max_capacity small s.requires.counts_len_bound.1)
-
-pub overflow_cast-result : goal.overflow_cast-result
-overflow_cast-result c =
-    let s = c.before.before.before.before in
-    omega (arith, c.shared_slice_known-1.given (get_or s.args.part.children.nodes s.args.k 0))
+    let k : ℕ = get_or c.args.part.children.nodes c.args.k 0 in
+    let small : k ≤ max_nodes = le_of_lt (lt_of_lt_of_le c.requires.k_lt_max_children.1 c.requires.counts_len_bound.0) in
+    omega (arith, product_le k c.args.part.capacity max_nodes max_capacity small c.requires.counts_len_bound.1)

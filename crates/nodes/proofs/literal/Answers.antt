@@ -8,9 +8,8 @@ use Rattle.nodes.proofs.literal.Goals as goal
 
 pub returns : goal.returns
 returns c =
-    let i = c.before.before.before.before in
-    let x = i.before.before.before.before.before.before.args in
+    let x = c.args in
     subst
-    (λ (t : Term). Filled (t ∷ []) (by_sign x.positives.now x.negatives.now) (by_sign i.insert.new.positives i.insert.new.negatives)
-    i.insert.result)
-    i.before.extend.ensures i.insert.ensures
+    (λ (t : Term). Filled (t ∷ []) (by_sign x.positives.now x.negatives.now) (by_sign c.insert.new.positives c.insert.new.negatives)
+    c.insert.result)
+    c.extend.ensures c.insert.ensures

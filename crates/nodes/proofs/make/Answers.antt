@@ -12,98 +12,70 @@ use Rattle.insertion.specs.Filled.{Filled}
 use Rattle.insertion.proofs.Parts.{even, filled_none}
 use Rattle.nodes.specs.Part.{Given, gate_made}
 use Rattle.nodes.proofs.make.Goals as goal
-use Rattle.nodes.proofs.make.Lts as lts
-use Rattle.nodes.proofs.make.Reads as reads
-use Rattle.nodes.proofs.make.Tie as tie
-
--- places of the code
-abbrev Start : Type 0
-Start = lts.Start tie.the-claims reads.Pre reads.Post tie.handed_clauses
-
-abbrev After-shared_slice_known4 : Type 0
-After-shared_slice_known4 = lts.After-shared_slice_known4 tie.the-claims reads.Pre reads.Post tie.handed_clauses
+use Rattle.nodes.proofs.make.Goals.{Start}
 
 abbrev slices : Start → Bool → List ℕ
-slices s = by_sign s.args.positives.now s.args.negatives.now
-
-abbrev Made : Start → Gate → (Bool → List ℕ) → Option ℕ → Type 0
-Made s g s' k =
-    let x = s.args in
-    Filled (gate_made x.sign g (terms_of x.ap.now x.an.now) (terms_of x.bp.now x.bn.now)) (slices s) s' k
+slices c = by_sign c.args.positives.now c.args.negatives.now
 
 -- what is made for the gate that it is
-made : (s : Start) (g : Gate) (s' : Bool → List ℕ) (k : Option ℕ) → s.args.gate ≡ g → Made s g s' k → Made s s.args.gate s' k
-made s g s' k e h = subst (λ (z : Gate). Made s z s' k) (sym e) h
+made : (c : Start) (g : Gate) (s' : Bool → List ℕ) (k : Option ℕ) → let x = c.args in
+    let Made : Gate → Type 0 = λ z. Filled (gate_made x.sign z (terms_of x.ap.now x.an.now) (terms_of x.bp.now x.bn.now)) (slices c) s' k in
+    x.gate ≡ g → Made g → Made x.gate
+made c g s' k e h =
+    let x = c.args in
+    subst (λ (z : Gate). Filled (gate_made x.sign z (terms_of x.ap.now x.an.now) (terms_of x.bp.now x.bn.now)) (slices c) s' k) (sym e) h
 
 -- what is given for it
-given : (s : Start) (g : Gate) → s.args.gate ≡ g
-    → let x = s.args in Given g x.ap.now x.an.now x.bp.now x.bn.now
-given s g e =
-    let x = s.args in
-    subst (λ (z : Gate). Given z x.ap.now x.an.now x.bp.now x.bn.now) e s.requires.given
-
-abbrev start : After-shared_slice_known4 → Start
-start p = p.before.before.before.before.before.before
+given : (c : Start) (g : Gate) → c.args.gate ≡ g
+    → let x = c.args in Given g x.ap.now x.an.now x.bp.now x.bn.now
+given c g e =
+    let x = c.args in
+    subst (λ (z : Gate). Given z x.ap.now x.an.now x.bp.now x.bn.now) e c.requires.given
 
 pub literal-requires : goal.literal-requires
 literal-requires c =
-    let g = c.before.before.before.before in
-    let s = start g.before in
-    (given s (Literal g.in-Literal.b g.in-Literal.x) g.in-Literal.is, s.requires.negatives_len.0)
+    let d = c.in-Literal in
+    (given (goal.at.literal-requires c).Start (Literal d.b d.x) d.is, c.requires.negatives_len.0)
 
 pub decision-requires : goal.decision-requires
 decision-requires c =
-    let s = start c.before.before.before.before in
     let d = c.in-Decision in record {
-      decided_at = given s (Decision d.x d.field-1 d.field-2) d.is;
-      negatives_len = s.requires.negatives_len.0;
+      decided_at = given (goal.at.decision-requires c).Start (Decision d.x d.field-1 d.field-2) d.is;
+      negatives_len = c.requires.negatives_len.0;
     }
 
 pub conjoin-requires : goal.conjoin-requires
-conjoin-requires c =
-    let g = c.before.before in
-    let s = start g.before.before in
-    (given s Conjunction g.in-Conjunction.is, s.requires.negatives_len.0)
+conjoin-requires c = (given (goal.at.conjoin-requires c).Start Conjunction c.in-Conjunction.is, c.requires.negatives_len.0)
 
 pub returns-in-Constant : goal.returns-in-Constant
 returns-in-Constant c =
-    let i = c.before.before.before.before in
-    let v = i.before in
-    let g = v.before.before.before.before in
-    let s = start g.before in
-    let s' : Bool → List ℕ = by_sign i.constant.new.positives i.constant.new.negatives in
-    made s (Constant g.in-Constant.b) s' i.constant.result g.in-Constant.is
-    (subst (λ (b : Bool). Filled (cond b (empty ∷ []) []) (slices s) s' i.constant.result) v.signed.ensures i.constant.ensures)
+    let s = (goal.at.returns-in-Constant c).Start in
+    let s' : Bool → List ℕ = by_sign c.constant.new.positives c.constant.new.negatives in
+    made s (Constant c.in-Constant.b) s' c.constant.result c.in-Constant.is
+    (subst (λ (b : Bool). Filled (cond b (empty ∷ []) []) (slices s) s' c.constant.result) c.signed.ensures c.constant.ensures)
 
 pub returns-in-Literal : goal.returns-in-Literal
 returns-in-Literal c =
-    let i = c.before.before.before.before in
-    let v = i.before in
-    let g = v.before.before.before.before in
-    let s = start g.before in
+    let s = (goal.at.returns-in-Literal c).Start in
     let d = c.in-Literal in
-    let s' : Bool → List ℕ = by_sign i.literal.new.positives i.literal.new.negatives in
-    made s (Literal d.b d.x) s' i.literal.result d.is
-    (subst (λ (b : Bool). Filled (extend empty d.x b ∷ []) (slices s) s' i.literal.result) v.signed-in-Literal.ensures i.literal.ensures)
+    let s' : Bool → List ℕ = by_sign c.literal.new.positives c.literal.new.negatives in
+    made s (Literal d.b d.x) s' c.literal.result d.is
+    (subst (λ (b : Bool). Filled (extend empty d.x b ∷ []) (slices s) s' c.literal.result) c.signed-in-Literal.ensures c.literal.ensures)
 
 pub returns-in-Decision : goal.returns-in-Decision
 returns-in-Decision c =
-    let i = c.before.before.before.before in
-    let g = i.before.before.before.before in
     let d = c.in-Decision in
-    made (start g.before) (Decision d.x d.field-1 d.field-2)
-    (by_sign i.decision.new.positives i.decision.new.negatives) i.decision.result d.is i.decision.ensures
+    made (goal.at.returns-in-Decision c).Start (Decision d.x d.field-1 d.field-2)
+    (by_sign c.decision.new.positives c.decision.new.negatives) c.decision.result d.is c.decision.ensures
 
 pub returns-in-Conjunction : goal.returns-in-Conjunction
 returns-in-Conjunction c =
-    let i = c.before.before.before.before in
-    let g = i.before.before.before in
-    made (start g.before.before) Conjunction (by_sign i.conjoin.new.positives i.conjoin.new.negatives) i.conjoin.result
-    g.in-Conjunction.is i.conjoin.ensures
+    made (goal.at.returns-in-Conjunction c).Start Conjunction (by_sign c.conjoin.new.positives c.conjoin.new.negatives)
+    c.conjoin.result c.in-Conjunction.is c.conjoin.ensures
 
 pub returns-in-Unknown : goal.returns-in-Unknown
 returns-in-Unknown c =
-    let s = start c.before.before in
-    let x = s.args in
+    let s = (goal.at.returns-in-Unknown c).Start in
+    let x = c.args in
     made s Unknown (slices s) (Some 0) c.in-Unknown.is
-    (filled_none (slices s) (even x.positives.now x.negatives.now s.requires.negatives_len.0) 0 zero-le)
+    (filled_none (slices s) (even x.positives.now x.negatives.now c.requires.negatives_len.0) 0 zero-le)

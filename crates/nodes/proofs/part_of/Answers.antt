@@ -9,14 +9,7 @@ use Rattle.nodes.proofs.part_of.Goals as goal
 
 pub overflow_mul-at : goal.overflow_mul-at
 overflow_mul-at c =
-    let s = c.before.before.before in
-    omega (arith, product_le s.args.i s.args.capacity max_nodes max_capacity (le_of_lt s.requires.0) s.requires.1)
+    omega (arith, product_le c.args.i c.args.capacity max_nodes max_capacity (le_of_lt c.requires.0) c.requires.1)
 
 pub returns : goal.returns
-returns c =
-    record {
-      sign-is = refl;
-      node = c.before.decode_at-node.ensures;
-      at = refl;
-      capacity-is = refl;
-    }
+returns c = record { sign-is = refl; node = c.decode_at-node.ensures; at = refl; capacity-is = refl }

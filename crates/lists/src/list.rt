@@ -34,6 +34,7 @@ impl<'a> TermList<'a> {
 }
 
 // Entries in which a list of terms is made.
+#[derive(Drop)]
 pub struct TermBuffer<'a> {
     pub positives: &'a mut [u64],
     pub negatives: &'a mut [u64],

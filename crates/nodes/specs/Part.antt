@@ -14,6 +14,8 @@ use Rattle.terms.specs.Term.{empty, has, extend, terms_of}
 use Rattle.terms.specs.declared.Term.{Term}
 use Rattle.circuits.specs.Function.{signed}
 use Rattle.lists.specs.Capacity.{max_capacity}
+use Rattle.lists.specs.declared.list.TermBuffer.{TermBuffer}
+use Rattle.lists.specs.declared.list.TermList.{TermList}
 use Rattle.insertion.specs.Filled.{masks_of, laid, kept_of}
 use Rattle.settling.specs.Sides.{Sides, SidesAt, DecidedAt}
 use Rattle.nodes.specs.declared.NodePart.{NodePart}
@@ -44,17 +46,17 @@ PairGiven (Decision x l h) a b = Decided x a b
 PairGiven Conjunction a b = Sides a b
 PairGiven Unknown a b = Unit {0}
 
--- the same of two lists as they stand in slices
-abbrev pub Given : Gate → List ℕ → List ℕ → List ℕ → List ℕ → Type 0
-Given (Constant b) ap an bp bn = Unit {0}
-Given (Literal b x) ap an bp bn = x < width
-Given (Decision x a b) ap an bp bn = DecidedAt x ap an bp bn
-Given Conjunction ap an bp bn = SidesAt ap an bp bn
-Given Unknown ap an bp bn = Unit {0}
+-- the same of two lent lists
+abbrev pub Given : Gate → TermList → TermList → Type 0
+Given (Constant v) a b = Unit {0}
+Given (Literal v x) a b = x < width
+Given (Decision x l h) a b = DecidedAt x a b
+Given Conjunction a b = SidesAt a b
+Given Unknown a b = Unit {0}
 
 -- the scratch has place for two lists of so many terms
-abbrev pub HasPlace : ℕ → List ℕ → List ℕ → List ℕ → List ℕ → Type 0
-HasPlace capacity ap an bp bn = (capacity ≤ length ap) × (capacity ≤ length an) × (capacity ≤ length bp) × (capacity ≤ length bn)
+abbrev pub HasPlace : ℕ → TermBuffer → TermBuffer → Type 0
+HasPlace capacity low high = (capacity ≤ length low.positives.now) × (capacity ≤ length high.positives.now)
 
 -- the count terms that stand from `at` on
 abbrev pub terms_from : (Bool → List ℕ) → ℕ → ℕ → List Term

@@ -1,48 +1,46 @@
 // One node: its terms made in its own part of the buffers, from the terms of its children in theirs.
 #![tactic(auto)]
 
-ghost use Rattle.std.specs.Prelude.{◌≡◌, cond, [], ◌∷◌, ◌+◌, ◌*◌, ◌≤◌, ◌<◌, length, take, drop, get_or};
+ghost use Rattle.std.specs.Prelude.{◌≡◌, cond, [], ◌∷◌, ◌+◌, ◌*◌, ◌≤◌, ◌<◌, length, get_or};
 ghost use Rattle.masks.specs.Mask.{width};
 ghost use Rattle.table.specs.Layout.{words_for, max_children};
 ghost use Rattle.table.specs.Node.{max_nodes};
 ghost use Rattle.terms.specs.Joins.{conjunction_terms};
 ghost use Rattle.terms.specs.Lists.{sort};
 ghost use Rattle.terms.specs.Order.{before};
-ghost use Rattle.terms.specs.Term.{empty, extend, terms_of};
+ghost use Rattle.terms.specs.Term.{empty, extend};
 ghost use Rattle.circuits.specs.Function.{signed};
 ghost use Rattle.lists.specs.Capacity.{max_capacity};
-ghost use Rattle.lists.specs.List.{by_sign};
+ghost use Rattle.lists.specs.List.{by_sign, held, slots, terms_in};
 ghost use Rattle.insertion.specs.Filled.{Filled};
 ghost use Rattle.settling.specs.Sides.{SidesAt};
-ghost use Rattle.nodes.specs.Part.{gate_made, node_made, Given, NodeGiven, terms_at, child_from, child_size, child_terms, Laid};
+ghost use Rattle.nodes.specs.Part.{gate_made, node_made, Given, PairGiven, NodeGiven, terms_at, child_from, child_size, child_terms, Laid};
 ghost use Rattle.nodes.specs.Part.{PartFilled, IsPart, places, HasPlace};
 
 use table::gates::{Gate, decode_at};
 use table::layout::Children;
+use lists::list::{TermBuffer, TermList};
 use terms::Term;
 
 // Makes the terms of a constant: the term with no literal, or none. How many they are, here and below; none where they are more than
 // there is room for.
-fn constant(positives: &mut [u64], negatives: &mut [u64], value: bool) -> Option<usize>
-    requires { length negatives.old ≡ length positives.old }
-    ensures { Filled (cond value (empty ∷ []) []) (by_sign positives.old negatives.old)
-        (by_sign positives.new negatives.new) result }
+fn constant(list: &mut TermBuffer, value: bool) -> Option<usize>
+    ensures { Filled (cond value (empty ∷ []) []) (slots list.old) (slots list.new) result }
 {
     let empty = terms::EMPTY;
     if value {
-        return insertion::insert(positives, negatives, 0, empty);
+        return insertion::insert(list, 0, empty);
     }
     Some(0)
 }
 
 // Makes the term of a literal.
-fn literal(positives: &mut [u64], negatives: &mut [u64], sign: bool, x: u32) -> Option<usize>
-    requires { (x < width) × (length negatives.old ≡ length positives.old) }
-    ensures { Filled (extend empty x sign ∷ []) (by_sign positives.old negatives.old)
-        (by_sign positives.new negatives.new) result }
+fn literal(list: &mut TermBuffer, sign: bool, x: u32) -> Option<usize>
+    requires { x < width }
+    ensures { Filled (extend empty x sign ∷ []) (slots list.old) (slots list.new) result }
 {
     let empty = terms::EMPTY;
-    insertion::insert(positives, negatives, 0, terms::extend(empty, x, sign))
+    insertion::insert(list, 0, terms::extend(empty, x, sign))
 }
 
 // The value, or its negation where the sign is false.
@@ -56,53 +54,34 @@ fn signed(sign: bool, value: bool) -> bool
 }
 
 // Makes the terms of a conjunction without a common variable, or of its negation, from those of two parts.
-fn conjoin(
-    positives: &mut [u64],
-    negatives: &mut [u64],
-    ap: &[u64],
-    an: &[u64],
-    bp: &[u64],
-    bn: &[u64],
-    sign: bool,
-) -> Option<usize>
-    requires { SidesAt ap.now an.now bp.now bn.now × (length negatives.old ≡ length positives.old) }
-    ensures { Filled
-        (sort (before [])
-        (conjunction_terms sign (terms_of ap.now an.now) (terms_of bp.now bn.now)))
-        (by_sign positives.old negatives.old)
-        (by_sign positives.new negatives.new) result }
+fn conjoin(list: &mut TermBuffer, a: TermList, b: TermList, sign: bool) -> Option<usize>
+    requires { SidesAt a b }
+    ensures { Filled (sort (before []) (conjunction_terms sign (terms_in a.entry) (terms_in b.entry)))
+        (slots list.old) (slots list.new) result }
 {
     if sign {
-        return joins::conjunction(positives, negatives, ap, an, bp, bn);
+        return joins::conjunction(list, a, b);
     }
-    unions::union(positives, negatives, ap, an, bp, bn)
+    unions::union(list, a, b)
 }
 
-// Makes the terms of a gate, or of its negation, in the two slices from two lists: those of two children, or a child's and what is
+// Makes the terms of a gate, or of its negation, from two lists: those of two children, or a child's and what is
 // made of those after it.
 fn make(
-    positives: &mut [u64],
-    negatives: &mut [u64],
-    ap: &[u64],
-    an: &[u64],
-    bp: &[u64],
-    bn: &[u64],
+    list: &mut TermBuffer,
+    a: TermList,
+    b: TermList,
     gate: Gate,
     sign: bool,
 ) -> Option<usize>
-    requires given { Given gate ap.now an.now bp.now bn.now }
-    requires negatives_len { (length negatives.old ≡ length positives.old) × (length an.now ≡ length ap.now)
-        × (length bn.now ≡ length bp.now) }
-    ensures { Filled
-        (gate_made sign gate (terms_of ap.now an.now) (terms_of bp.now bn.now))
-        (by_sign positives.old negatives.old)
-        (by_sign positives.new negatives.new) result }
+    requires { Given gate a b }
+    ensures { Filled (gate_made sign gate (terms_in a.entry) (terms_in b.entry)) (slots list.old) (slots list.new) result }
 {
     match gate {
-        Gate::Constant(b) => constant(positives, negatives, signed(sign, b)),
-        Gate::Literal(b, x) => literal(positives, negatives, signed(sign, b), x),
-        Gate::Decision(x, _, _) => decisions::decision(positives, negatives, ap, an, bp, bn, x),
-        Gate::Conjunction => conjoin(positives, negatives, ap, an, bp, bn, sign),
+        Gate::Constant(value) => constant(list, signed(sign, value)),
+        Gate::Literal(value, x) => literal(list, signed(sign, value), x),
+        Gate::Decision(x, _, _) => decisions::decision(list, a, b, x),
+        Gate::Conjunction => conjoin(list, a, b, sign),
         Gate::Unknown => Some(0),
     }
 }
@@ -125,54 +104,50 @@ pub struct Part {
     pub high: Terms,
 }
 
-// Makes the terms of a gate in the part. Its two lists are copied to the fronts of ap, an, bp and bn; what these hold
-// before and after is left free.
+// Copies terms of the buffers to the front of scratch.
+fn copy_terms(to: &mut TermBuffer, positives: &[u64], negatives: &[u64], terms: Terms)
+    requires { (terms.from + terms.count ≤ length positives.now) × (terms.from + terms.count ≤ length negatives.now)
+        × (terms.count ≤ length to.old.positives.now) }
+    ensures copied { held (slots to.new) terms.count ≡ terms_at (by_sign positives.now negatives.now) terms }
+    ensures size { length to.new.positives.now ≡ length to.old.positives.now }
+{
+    buffers::copy(to.positives, positives, terms.from, terms.count);
+    buffers::copy(to.negatives, negatives, terms.from, terms.count);
+}
+
+// Makes the terms of a gate in the part. Its two lists are copied to the fronts of low and high; what these hold before and after is left
+// free.
 fn fill_part(
     positives: &mut [u64],
     negatives: &mut [u64],
-    ap: &mut [u64],
-    an: &mut [u64],
-    bp: &mut [u64],
-    bn: &mut [u64],
+    low: &mut TermBuffer,
+    high: &mut TermBuffer,
     part: Part,
 ) -> Option<usize>
-    requires given { Given part.gate (take part.low.count (drop part.low.from positives.old))
-        (take part.low.count (drop part.low.from negatives.old))
-        (take part.high.count (drop part.high.from positives.old))
-        (take part.high.count (drop part.high.from negatives.old)) }
-    requires capacity_le_max_capacity { (part.capacity ≤ max_capacity) × (part.low.count ≤ part.capacity)
-        × (part.high.count ≤ part.capacity)
+    requires given { PairGiven part.gate (terms_at (by_sign positives.old negatives.old) part.low)
+        (terms_at (by_sign positives.old negatives.old) part.high) }
+    requires room { (part.capacity ≤ max_capacity) × (part.low.count ≤ part.capacity) × (part.high.count ≤ part.capacity)
         × (part.low.from + part.capacity ≤ length positives.old) × (part.high.from + part.capacity ≤ length positives.old)
         × (part.at + part.capacity ≤ length positives.old) × (length negatives.old ≡ length positives.old) }
-    requires has_place { HasPlace part.capacity ap.old an.old bp.old bn.old }
+    requires has_place { HasPlace part.capacity low.old high.old }
     ensures { PartFilled
         (gate_made part.sign part.gate (terms_at (by_sign positives.old negatives.old) part.low)
         (terms_at (by_sign positives.old negatives.old) part.high))
-        part.at part.capacity
-        (by_sign positives.old negatives.old)
-        (by_sign positives.new negatives.new) result }
+        part.at part.capacity (by_sign positives.old negatives.old) (by_sign positives.new negatives.new) result }
 {
-    let low = part.low;
-    let high = part.high;
-    let ca = low.count;
-    let cb = high.count;
-    let at = part.at;
-    let end = at + part.capacity;
-    let gate = part.gate;
-    let sign = part.sign;
-    buffers::copy(ap, positives, low.from, ca);
-    buffers::copy(an, negatives, low.from, ca);
-    buffers::copy(bp, positives, high.from, cb);
-    buffers::copy(bn, negatives, high.from, cb);
+    copy_terms(low, positives, negatives, part.low);
+    copy_terms(high, positives, negatives, part.high);
+    let end = part.at + part.capacity;
+    let mut node = TermBuffer {
+        positives: &mut positives[part.at..end],
+        negatives: &mut negatives[part.at..end],
+    };
     make(
-        &mut positives[at..end],
-        &mut negatives[at..end],
-        &ap[..ca],
-        &an[..ca],
-        &bp[..cb],
-        &bn[..cb],
-        gate,
-        sign,
+        &mut node,
+        low.front(part.low.count),
+        high.front(part.high.count),
+        part.gate,
+        part.sign,
     )
 }
 
@@ -221,27 +196,24 @@ fn places(gate: Gate, count: u32) -> usize
 pub fn fill_node(
     positives: &mut [u64],
     negatives: &mut [u64],
-    ap: &mut [u64],
-    an: &mut [u64],
-    bp: &mut [u64],
-    bn: &mut [u64],
+    low: &mut TermBuffer,
+    high: &mut TermBuffer,
     counts: &[u32],
     part: NodePart,
 ) -> Option<usize>
     requires laid { Laid (by_sign positives.old negatives.old) counts.now part
         × NodeGiven part.sign part.gate (child_terms (by_sign positives.old negatives.old) counts.now part)
         (places part.gate part.children.count) }
-    requires has_place { HasPlace part.capacity ap.old an.old bp.old bn.old }
+    requires has_place { HasPlace part.capacity low.old high.old }
     ensures { PartFilled
         (node_made part.sign part.gate part.children.count
         (child_terms (by_sign positives.old negatives.old) counts.now part))
-        part.at part.capacity (by_sign positives.old negatives.old)
-        (by_sign positives.new negatives.new) result }
+        part.at part.capacity (by_sign positives.old negatives.old) (by_sign positives.new negatives.new) result }
 {
     let gate = part.gate;
     let children = part.children;
     let last = places(gate, children.count) - 1;
-    let mut high = child_at(counts, part, last);
+    let mut made = child_at(counts, part, last);
     for k in (0..last).rev() {
         let pair = Part {
             gate,
@@ -249,15 +221,15 @@ pub fn fill_node(
             at: part.at,
             capacity: part.capacity,
             low: child_at(counts, part, k),
-            high,
+            high: made,
         };
-        let count = fill_part(positives, negatives, ap, an, bp, bn, pair)?;
-        high = Terms {
+        let count = fill_part(positives, negatives, low, high, pair)?;
+        made = Terms {
             from: part.at,
             count,
         };
     }
-    Some(high.count)
+    Some(made.count)
 }
 
 // The part of node i, or of its negation where the sign is false.

@@ -5,7 +5,7 @@ ghost use Rattle.std.specs.Prelude.{◌≡◌, [], ◌*◌, ◌≤◌, length, r
 ghost use Rattle.terms.specs.Joins.{decision_terms};
 ghost use Rattle.terms.specs.Lists.{sort};
 ghost use Rattle.terms.specs.Order.{before};
-ghost use Rattle.lists.specs.List.{slots, terms_in};
+ghost use Rattle.lists.specs.List.{SameLoan, slots, terms_in};
 ghost use Rattle.lists.specs.Capacity.{max_capacity};
 ghost use Rattle.hints.specs.Scratch.{max_words, column_count, HasHalves};
 ghost use Rattle.insertion.specs.Filled.{Filled};
@@ -72,7 +72,8 @@ fn decide(
     requires decided_at { DecidedAt x a b }
     requires kept_len { length kept.old ≤ 2 * max_capacity }
     requires has_halves { HasHalves (length a.positives.now) (length b.positives.now) columns.old }
-    ensures { Filled (sort (before []) (decision_terms x (terms_in a.entry) (terms_in b.entry))) (slots list.old) (slots list.new) result }
+    ensures made { Filled (sort (before []) (decision_terms x (terms_in a.entry) (terms_in b.entry))) (slots list.old) (slots list.new) result }
+    ensures same_loan { SameLoan list.old list.new }
 {
     let none = Counts {
         listed: 0,
@@ -103,7 +104,8 @@ fn decide_with<const KEPT: usize, const HINTS: usize, const COLUMNS: usize>(
     requires decided_at { DecidedAt x a b }
     requires sizes { (KEPT ≤ 2 * max_capacity) × (HINTS ≤ 2 * max_capacity) × (COLUMNS ≤ 2 * column_count * max_words) }
     requires has_halves { HasHalves (length a.positives.now) (length b.positives.now) (replicate COLUMNS 0) }
-    ensures { Filled (sort (before []) (decision_terms x (terms_in a.entry) (terms_in b.entry))) (slots list.old) (slots list.new) result }
+    ensures made { Filled (sort (before []) (decision_terms x (terms_in a.entry) (terms_in b.entry))) (slots list.old) (slots list.new) result }
+    ensures same_loan { SameLoan list.old list.new }
 {
     let mut kept = [0u64; KEPT];
     let mut hints = [NO_PLACE; HINTS];
@@ -122,7 +124,8 @@ fn has_few_joins(m: usize, n: usize, capacity: usize) -> bool
 // that short sides have little.
 pub fn decision(list: &mut TermBuffer, a: TermList, b: TermList, x: u32) -> Option<usize>
     requires { DecidedAt x a b }
-    ensures { Filled (sort (before []) (decision_terms x (terms_in a.entry) (terms_in b.entry))) (slots list.old) (slots list.new) result }
+    ensures made { Filled (sort (before []) (decision_terms x (terms_in a.entry) (terms_in b.entry))) (slots list.old) (slots list.new) result }
+    ensures same_loan { SameLoan list.old list.new }
 {
     let longer = a.len().max(b.len());
     if longer > MIDDLE {

@@ -1,6 +1,6 @@
 // The terms of one side: each is listed as it is, and kept, where a term of the other side is inside it, and else with the literal of the
 // decision's variable.
-ghost use Rattle.lists.specs.List.{nth, slots, terms_in};
+ghost use Rattle.lists.specs.List.{SameLoan, nth, slots, terms_in};
 ghost use Rattle.std.specs.Prelude.{◌<◌, length};
 ghost use Rattle.subsumption.specs.Ahead.{FoundInside};
 ghost use Rattle.settling.specs.Growth.{Grown};
@@ -39,7 +39,7 @@ fn list_one(
     requires extending { Extending literal.variable a b (slots list.old) kept.old
         counts }
     requires at_in_bounds { (one.at < length a.positives.now) × FoundInside b (nth a one.at) one.found }
-    ensures { Grown
+    ensures made { Grown
         (side_terms literal.variable literal.sign (terms_in a.entry)
         (terms_in b.entry))
         (least_between a.entry b.entry)
@@ -47,6 +47,7 @@ fn list_one(
         (nth a.entry one.at))
         (slots list.old) counts.listed
         (slots list.new) kept.new result }
+    ensures same_loan { SameLoan list.old list.new }
 {
     let at = one.at;
     let found = one.found;
@@ -89,7 +90,7 @@ pub fn list_side(
 ) -> Option<Counts>
     requires { Extending literal.variable a b (slots list.old) kept.old
         start }
-    ensures { Grown
+    ensures made { Grown
         (side_terms literal.variable literal.sign (terms_in a.entry)
         (terms_in b.entry))
         (least_between a.entry b.entry)
@@ -97,6 +98,7 @@ pub fn list_side(
         (terms_in b.entry))
         (slots list.old) start.listed
         (slots list.new) kept.new result }
+    ensures same_loan { SameLoan list.old list.new }
 {
     let mut counts = start;
     let mut end = 0;

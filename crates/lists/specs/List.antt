@@ -1,5 +1,5 @@
 -- The terms of a list, and the entries of a buffer.
-use Rattle.std.specs.Prelude.{ℕ, Bool, true, false, List, take}
+use Rattle.std.specs.Prelude.{ℕ, Bool, true, false, List, take, ◌≡◌}
 use Rattle.terms.specs.Term.{terms_of}
 use Rattle.terms.specs.declared.Term.{Term}
 use Rattle.lists.specs.Entries.{term_at}
@@ -17,6 +17,10 @@ nth l k = term_at l.positives.now l.negatives.now k
 abbrev pub by_sign : List ℕ → List ℕ → Bool → List ℕ
 by_sign ps ns true = ps
 by_sign ps ns false = ns
+
+-- both slices are still lent from where they were, so that what is in them at the end is what their lender finds
+abbrev pub SameLoan : TermBuffer → TermBuffer → Type 0
+SameLoan b b' = (b'.positives.ghost_name ≡ b.positives.ghost_name) × (b'.negatives.ghost_name ≡ b.negatives.ghost_name)
 
 abbrev pub slots : TermBuffer → Bool → List ℕ
 slots b = by_sign b.positives.now b.negatives.now

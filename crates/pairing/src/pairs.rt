@@ -1,5 +1,5 @@
 // All pairs of terms of the two sides, row by row: the side whose rows cost less goes on.
-ghost use Rattle.lists.specs.List.{slots};
+ghost use Rattle.lists.specs.List.{SameLoan, slots};
 ghost use Rattle.std.specs.Prelude.{◌≡◌, ◌+◌, ◌*◌, ◌≤◌, ◌<◌, length};
 ghost use Rattle.lists.specs.Capacity.{max_capacity};
 ghost use Rattle.hints.specs.Scratch.{HasHalves, max_cost};
@@ -70,9 +70,10 @@ fn step_low(
 ) -> Option<Turn>
     requires paired { Paired a b (slots list.old) kept.old turn }
     requires has_halves { HasHalves (length a.positives.now) (length b.positives.now) columns.old }
-    ensures { Turns a.entry b.entry
+    ensures made { Turns a.entry b.entry
         (slots list.old) turn
         (slots list.new) kept.new result }
+    ensures same_loan { SameLoan list.old list.new }
 {
     let low = turn.low;
     let high = turn.high;
@@ -121,9 +122,10 @@ fn step_high(
 ) -> Option<Turn>
     requires paired { Paired a b (slots list.old) kept.old turn }
     requires has_halves { HasHalves (length a.positives.now) (length b.positives.now) columns.old }
-    ensures { Turns a.entry b.entry
+    ensures made { Turns a.entry b.entry
         (slots list.old) turn
         (slots list.new) kept.new result }
+    ensures same_loan { SameLoan list.old list.new }
 {
     let low = turn.low;
     let high = turn.high;
@@ -185,9 +187,10 @@ fn step(
 ) -> Option<Turn>
     requires paired { Paired a b (slots list.old) kept.old turn }
     requires has_halves { HasHalves (length a.positives.now) (length b.positives.now) columns.old }
-    ensures { Turns a.entry b.entry
+    ensures made { Turns a.entry b.entry
         (slots list.old) turn
         (slots list.new) kept.new result }
+    ensures same_loan { SameLoan list.old list.new }
 {
     let low = turn.low;
     let high = turn.high;
@@ -215,12 +218,13 @@ pub fn join_all(
 ) -> Option<Counts>
     requires growing { Growing a b (slots list.old) kept.old start }
     requires has_halves { HasHalves (length a.positives.now) (length b.positives.now) columns.old }
-    ensures { Grown (least_between a.entry b.entry)
+    ensures made { Grown (least_between a.entry b.entry)
         (least_between a.entry b.entry)
         (λ l. AllSettled (least_between a.entry b.entry) l
         a.entry b.entry)
         (slots list.old) start.listed
         (slots list.new) kept.new result }
+    ensures same_loan { SameLoan list.old list.new }
 {
     let first = Side {
         at: 0,

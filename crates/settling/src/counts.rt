@@ -2,7 +2,7 @@
 ghost use Rattle.std.specs.Prelude.{◌≡◌, [], ◌*◌, ◌≤◌, length};
 ghost use Rattle.terms.specs.Lists.{Rising};
 ghost use Rattle.terms.specs.Order.{before};
-ghost use Rattle.lists.specs.List.{held, slots};
+ghost use Rattle.lists.specs.List.{SameLoan, held, slots};
 ghost use Rattle.settling.specs.Growth.{Keeps};
 
 use lists::list::TermBuffer;
@@ -27,8 +27,9 @@ pub fn keep(
     requires listed_in_bounds { (counts.listed ≤ length list.old.positives.now)
         × Rising (before []) (held (slots list.old) counts.listed) }
     requires kept_in_bounds { 2 * counts.kept ≤ length kept.old }
-    ensures { Keeps t (slots list.old) kept.old counts
+    ensures made { Keeps t (slots list.old) kept.old counts
         (slots list.new) kept.new result }
+    ensures same_loan { SameLoan list.old list.new }
 {
     let listed = insertion::insert(list, counts.listed, t)?;
     let k = counts.kept;

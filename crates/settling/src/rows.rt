@@ -3,7 +3,7 @@ ghost use Rattle.std.specs.Prelude.{◌≡◌, true, false, ◌*◌, ◌≤◌, 
 ghost use mathlib.Core.List.{Memᴰ};
 ghost use Rattle.terms.specs.Joins.{joins};
 ghost use Rattle.terms.specs.Term.{conflict};
-ghost use Rattle.lists.specs.List.{held, nth, slots, terms_in};
+ghost use Rattle.lists.specs.List.{SameLoan, held, nth, slots, terms_in};
 ghost use Rattle.lists.specs.Capacity.{max_capacity};
 ghost use Rattle.hints.specs.Scratch.{max_words, bit_words, HasColumns};
 ghost use Rattle.settling.specs.Growth.{Growing, Grown};
@@ -102,11 +102,12 @@ fn add_least(
 ) -> Option<Counts>
     requires growing { Growing a b (slots list.old) kept.old counts }
     requires fact { Memᴰ q (joins (terms_in a) (terms_in b)) }
-    ensures { Grown (least_between a.entry b.entry)
+    ensures made { Grown (least_between a.entry b.entry)
         (least_between a.entry b.entry)
         (λ l. Covered (least_between a.entry b.entry) l q)
         (slots list.old) counts.listed
         (slots list.new) kept.new result }
+    ensures same_loan { SameLoan list.old list.new }
 {
     let m = strike(a, b, q);
     keep(list, kept, counts, m)
@@ -127,12 +128,13 @@ fn settle(
         (held (slots list.old) pair.counts.listed)
         (nth a pair.low) (nth b pair.high))
         × (tried.settled ≡ false → conflict (nth a pair.low) (nth b pair.high) ≡ false) }
-    ensures { Grown (least_between a.entry b.entry)
+    ensures made { Grown (least_between a.entry b.entry)
         (least_between a.entry b.entry)
         (λ l. Settled (least_between a.entry b.entry) l
         (nth a.entry pair.low) (nth b.entry pair.high))
         (slots list.old) pair.counts.listed
         (slots list.new) kept.new result }
+    ensures same_loan { SameLoan list.old list.new }
 {
     let counts = pair.counts;
     let spent = Counts {
@@ -191,12 +193,13 @@ fn join_row(
 ) -> Option<Counts>
     requires growing { Growing a b (slots list.old) kept.old row.counts }
     requires at_in_bounds { (row.at < length a.positives.now) × HasColumns (bit_words (length b.positives.now)) columns.old }
-    ensures { Grown (least_between a.entry b.entry)
+    ensures made { Grown (least_between a.entry b.entry)
         (least_between a.entry b.entry)
         (λ l. SettledFrom (least_between a.entry b.entry) l
         (nth a.entry row.at) b.entry row.from)
         (slots list.old) row.counts.listed
         (slots list.new) kept.new result }
+    ensures same_loan { SameLoan list.old list.new }
 {
     let at = row.at;
     let made = row.made;
@@ -241,12 +244,13 @@ pub fn settle_row(
 ) -> Option<Counts>
     requires growing { Growing a b (slots list.old) kept.old row.counts }
     requires at_in_bounds { (row.at < length a.positives.now) × HasColumns (bit_words (length b.positives.now)) columns.old }
-    ensures { Grown (least_between a.entry b.entry)
+    ensures made { Grown (least_between a.entry b.entry)
         (least_between a.entry b.entry)
         (λ l. SettledFrom (least_between a.entry b.entry) l
         (nth a.entry row.at) b.entry row.from)
         (slots list.old) row.counts.listed
         (slots list.new) kept.new result }
+    ensures same_loan { SameLoan list.old list.new }
 {
     let at = row.at;
     let counts = row.counts;

@@ -24,35 +24,35 @@ module _ (c : Start) where
 pub list_side-requires : goal.list_side-requires
 list_side-requires c = begun (goal.at.list_side-requires c).Start
 
-pub returns-in_err-c : goal.returns-in_err-c
-returns-in_err-c c =
-    rw c.from_residual.ensures (over₁ c.requires.decided_at (begun (goal.at.returns-in_err-c c).Start) c.in_err-c.ensures)
+pub returns-in_err-c-clause-made : goal.returns-in_err-c-clause-made
+returns-in_err-c-clause-made c =
+    rw c.from_residual.ensures (over₁ c.requires.decided_at (begun (goal.at.returns-in_err-c-clause-made c).Start) c.in_err-c.ensures.made)
 
 pub list_side-requires-2 : goal.list_side-requires-2
 list_side-requires-2 c =
-    second c.requires.decided_at (begun (goal.at.list_side-requires-2 c).Start) _ c.list_side.new.kept c.in_ok-c.c c.in_ok-c.ensures
+    second c.requires.decided_at (begun (goal.at.list_side-requires-2 c).Start) _ c.list_side.new.kept c.in_ok-c.c c.in_ok-c.ensures.made
 
-pub returns-in_err-d : goal.returns-in_err-d
-returns-in_err-d c =
+pub returns-in_err-d-clause-made : goal.returns-in_err-d-clause-made
+returns-in_err-d-clause-made c =
     rw c.from_residual-in_err-d.ensures
-    (over₂ c.requires.decided_at (begun (goal.at.returns-in_err-d c).Start) _ c.list_side.new.kept c.in_ok-c.c c.in_ok-c.ensures
-    c.in_err-d.ensures)
+    (over₂ c.requires.decided_at (begun (goal.at.returns-in_err-d-clause-made c).Start) _ c.list_side.new.kept c.in_ok-c.c c.in_ok-c.ensures.made
+    c.in_err-d.ensures.made)
 
 pub join_all-requires : goal.join_all-requires
 join_all-requires c = record {
   growing =
-      third c.requires.decided_at (begun (goal.at.join_all-requires c).Start) _ c.list_side.new.kept c.in_ok-c.c c.in_ok-c.ensures _
-      c.list_side-2.new.kept c.in_ok-d.d c.in_ok-d.ensures;
+      third c.requires.decided_at (begun (goal.at.join_all-requires c).Start) _ c.list_side.new.kept c.in_ok-c.c c.in_ok-c.ensures.made _
+      c.list_side-2.new.kept c.in_ok-d.d c.in_ok-d.ensures.made;
   has_halves = c.requires.has_halves;
 }
 
-pub returns-in_err-e : goal.returns-in_err-e
-returns-in_err-e c =
+pub returns-in_err-e-clause-made : goal.returns-in_err-e-clause-made
+returns-in_err-e-clause-made c =
     rw c.from_residual-in_err-e.ensures
-    (over₃ c.requires.decided_at (begun (goal.at.returns-in_err-e c).Start) _ c.list_side.new.kept c.in_ok-c.c c.in_ok-c.ensures _
-    c.list_side-2.new.kept c.in_ok-d.d c.in_ok-d.ensures c.in_err-e.ensures)
+    (over₃ c.requires.decided_at (begun (goal.at.returns-in_err-e-clause-made c).Start) _ c.list_side.new.kept c.in_ok-c.c c.in_ok-c.ensures.made _
+    c.list_side-2.new.kept c.in_ok-d.d c.in_ok-d.ensures.made c.in_err-e.ensures.made)
 
-pub returns : goal.returns
-returns c =
-    ends c.requires.decided_at (begun (goal.at.returns c).Start) _ c.list_side.new.kept c.in_ok-c.c c.in_ok-c.ensures _
-    c.list_side-2.new.kept c.in_ok-d.d c.in_ok-d.ensures _ c.join_all.new.kept c.in_ok-e.e c.in_ok-e.ensures
+pub returns-clause-made : goal.returns-clause-made
+returns-clause-made c =
+    ends c.requires.decided_at (begun (goal.at.returns-clause-made c).Start) _ c.list_side.new.kept c.in_ok-c.c c.in_ok-c.ensures.made _
+    c.list_side-2.new.kept c.in_ok-d.d c.in_ok-d.ensures.made _ c.join_all.new.kept c.in_ok-e.e c.in_ok-e.ensures.made

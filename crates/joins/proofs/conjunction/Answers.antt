@@ -1,5 +1,5 @@
 use Prim.Native.Nat.{ℕ, zero-le}
-use mathlib.Core.Path.{◌≡◌, subst}
+use mathlib.Core.Path.{refl, ◌≡◌, subst, ◌∙◌}
 use mathlib.Core.Bool.{Bool}
 use mathlib.Core.List.{List}
 use native.Mathlib.Omega.{arith}
@@ -33,20 +33,20 @@ module _ (c : At-loop-k) where
 
   sizes : (b : Bool) → length (now b) ≡ length (first b)
   sizes =
-      turn-length steps c.args.b.positives.now c.args.b.negatives.now c.args.b.same_length whole first now evens c.loop-k.count c.loop-k.k c.loop-k.invariant
+      turn-length steps c.args.b.positives.now c.args.b.negatives.now c.args.b.same_length whole first now evens c.loop-k.count c.loop-k.k c.loop-k.invariant.0
 
 pub loop-k-init : goal.loop-k-init
 loop-k-init c =
     let x = c.args in
-    turn-start (joining_all (terms_in x.a)) x.b.positives.now x.b.negatives.now (slots x.list.now)
-    (even-slots x.list.now) 0 zero-le tt
+    (turn-start (joining_all (terms_in x.a)) x.b.positives.now x.b.negatives.now (slots x.list.now)
+    (even-slots x.list.now) 0 zero-le tt, (refl, refl))
 
 pub join_each-requires : goal.join_each-requires
 join_each-requires c =
     let l = (goal.at.join_each-requires c).At-loop-k in (
       turn-fits (steps l) c.args.b.positives.now c.args.b.negatives.now c.args.b.same_length (whole l) (first l) (now l) (evens l) c.loop-k.count
-          c.loop-k.k c.loop-k.invariant,
-      c.loop-k.invariant.rising,
+          c.loop-k.k c.loop-k.invariant.0,
+      c.loop-k.invariant.0.rising,
     )
 
 pub loop-k-preserved : goal.loop-k-preserved
@@ -54,25 +54,25 @@ loop-k-preserved c =
     let l = (goal.at.loop-k-preserved c).At-loop-k in
     let x = c.args in
     let then : Bool → List ℕ = slots c.join_each.new.list in
-    turn-next (steps l) x.b.positives.now x.b.negatives.now c.args.b.same_length (whole l) (first l) (now l) (evens l) c.loop-k.count c.loop-k.k
-    c.loop-k.invariant
+    (turn-next (steps l) x.b.positives.now x.b.negatives.now c.args.b.same_length (whole l) (first l) (now l) (evens l) c.loop-k.count c.loop-k.k
+    c.loop-k.invariant.0
     (omega (arith, c.loop-k-test.true)) then c.in_ok-count.count
     (subst (λ (t : Term). Added ((steps l).one t) (now l) c.loop-k.count then (Some c.in_ok-count.count)) c.at.ensures
-    c.in_ok-count.ensures)
+    c.in_ok-count.ensures.made), (c.join_each.ensures.same_loan.0 ∙ c.loop-k.invariant.1.0, c.join_each.ensures.same_loan.1 ∙ c.loop-k.invariant.1.1))
 
-pub returns-in_err-count : goal.returns-in_err-count
-returns-in_err-count c =
-    let l = (goal.at.returns-in_err-count c).At-loop-k in
+pub returns-in_err-count-clause-made : goal.returns-in_err-count-clause-made
+returns-in_err-count-clause-made c =
+    let l = (goal.at.returns-in_err-count-clause-made c).At-loop-k in
     let x = c.args in
     let then : Bool → List ℕ = slots c.join_each.new.list in
     rw c.from_residual.ensures
     (turn-full (steps l) x.b.positives.now x.b.negatives.now c.args.b.same_length (whole l) (first l) (now l) (evens l) c.loop-k.count c.loop-k.k
-    c.loop-k.invariant
+    c.loop-k.invariant.0
     (omega (arith, c.loop-k-test.true)) then then
-    (subst (λ (t : Term). Added ((steps l).one t) (now l) c.loop-k.count then None) c.at.ensures c.in_err-count.ensures))
+    (subst (λ (t : Term). Added ((steps l).one t) (now l) c.loop-k.count then None) c.at.ensures c.in_err-count.ensures.made))
 
-pub returns : goal.returns
-returns c =
-    let l = (goal.at.returns c).At-loop-k in
+pub returns-clause-made : goal.returns-clause-made
+returns-clause-made c =
+    let l = (goal.at.returns-clause-made c).At-loop-k in
     turn_end (steps l) c.args.b.positives.now c.args.b.negatives.now c.args.b.same_length (whole l) (first l) (now l) (evens l) c.loop-k.count c.loop-k.k
-    c.loop-k.invariant (omega arith)
+    c.loop-k.invariant.0 (omega arith)

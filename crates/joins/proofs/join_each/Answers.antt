@@ -1,5 +1,5 @@
 use Prim.Native.Nat.{ℕ}
-use mathlib.Core.Path.{◌≡◌, subst}
+use mathlib.Core.Path.{refl, ◌≡◌, subst, ◌∙◌}
 use mathlib.Core.Bool.{Bool}
 use mathlib.Core.List.{List}
 use native.Mathlib.Omega.{arith}
@@ -32,20 +32,20 @@ module _ (c : At-loop-k) where
 
   sizes : (b : Bool) → length (now b) ≡ length (first b)
   sizes =
-      turn-length steps c.args.others.positives.now c.args.others.negatives.now c.args.others.same_length whole first now evens c.loop-k.count c.loop-k.k c.loop-k.invariant
+      turn-length steps c.args.others.positives.now c.args.others.negatives.now c.args.others.same_length whole first now evens c.loop-k.count c.loop-k.k c.loop-k.invariant.0
 
 pub loop-k-init : goal.loop-k-init
 loop-k-init c =
     let x = c.args in
-    turn-start (joining_one x.t) x.others.positives.now x.others.negatives.now (slots x.list.now)
-    (even-slots x.list.now) x.start c.requires.0 c.requires.1
+    (turn-start (joining_one x.t) x.others.positives.now x.others.negatives.now (slots x.list.now)
+    (even-slots x.list.now) x.start c.requires.0 c.requires.1, (refl, refl))
 
 pub add_join-requires : goal.add_join-requires
 add_join-requires c =
     let l = (goal.at.add_join-requires c).At-loop-k in (
       turn-fits (steps l) c.args.others.positives.now c.args.others.negatives.now c.args.others.same_length (whole l) (first l) (now l) (evens l) c.loop-k.count
-          c.loop-k.k c.loop-k.invariant,
-      c.loop-k.invariant.rising,
+          c.loop-k.k c.loop-k.invariant.0,
+      c.loop-k.invariant.0.rising,
     )
 
 pub loop-k-preserved : goal.loop-k-preserved
@@ -53,25 +53,25 @@ loop-k-preserved c =
     let l = (goal.at.loop-k-preserved c).At-loop-k in
     let x = c.args in
     let then : Bool → List ℕ = slots c.add_join.new.list in
-    turn-next (steps l) x.others.positives.now x.others.negatives.now c.args.others.same_length (whole l) (first l) (now l) (evens l) c.loop-k.count c.loop-k.k
-    c.loop-k.invariant
+    (turn-next (steps l) x.others.positives.now x.others.negatives.now c.args.others.same_length (whole l) (first l) (now l) (evens l) c.loop-k.count c.loop-k.k
+    c.loop-k.invariant.0
     (omega (arith, c.loop-k-test.true)) then c.in_ok-count.count
     (subst (λ (t : Term). Added ((steps l).one t) (now l) c.loop-k.count then (Some c.in_ok-count.count)) c.at.ensures
-    c.in_ok-count.ensures)
+    c.in_ok-count.ensures.made), (c.add_join.ensures.same_loan.0 ∙ c.loop-k.invariant.1.0, c.add_join.ensures.same_loan.1 ∙ c.loop-k.invariant.1.1))
 
-pub returns-in_err-count : goal.returns-in_err-count
-returns-in_err-count c =
-    let l = (goal.at.returns-in_err-count c).At-loop-k in
+pub returns-in_err-count-clause-made : goal.returns-in_err-count-clause-made
+returns-in_err-count-clause-made c =
+    let l = (goal.at.returns-in_err-count-clause-made c).At-loop-k in
     let x = c.args in
     let then : Bool → List ℕ = slots c.add_join.new.list in
     rw c.from_residual.ensures
     (turn-full (steps l) x.others.positives.now x.others.negatives.now c.args.others.same_length (whole l) (first l) (now l) (evens l) c.loop-k.count c.loop-k.k
-    c.loop-k.invariant
+    c.loop-k.invariant.0
     (omega (arith, c.loop-k-test.true)) then then
-    (subst (λ (t : Term). Added ((steps l).one t) (now l) c.loop-k.count then None) c.at.ensures c.in_err-count.ensures))
+    (subst (λ (t : Term). Added ((steps l).one t) (now l) c.loop-k.count then None) c.at.ensures c.in_err-count.ensures.made))
 
-pub returns : goal.returns
-returns c =
-    let l = (goal.at.returns c).At-loop-k in
+pub returns-clause-made : goal.returns-clause-made
+returns-clause-made c =
+    let l = (goal.at.returns-clause-made c).At-loop-k in
     turn_end (steps l) c.args.others.positives.now c.args.others.negatives.now c.args.others.same_length (whole l) (first l) (now l) (evens l) c.loop-k.count c.loop-k.k
-    c.loop-k.invariant (omega arith)
+    c.loop-k.invariant.0 (omega arith)

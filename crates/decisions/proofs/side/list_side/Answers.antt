@@ -1,4 +1,4 @@
-use mathlib.Core.Path.{sym, subst}
+use mathlib.Core.Path.{refl, sym, subst, ◌∙◌}
 use native.Mathlib.Omega.{arith}
 use Rattle.terms.specs.Term.{IsTerm}
 use Rattle.terms.specs.declared.Term.{Term}
@@ -10,7 +10,7 @@ use Rattle.decisions.proofs.side.list_side.Goals as goal
 
 pub loop-k-init : goal.loop-k-init
 loop-k-init c =
-    (side-start c.requires c.args.literal.sign, omega arith)
+    (side-start c.requires c.args.literal.sign, omega arith, (refl, refl))
 
 pub end_ahead-end-requires : goal.end_ahead-end-requires
 end_ahead-end-requires c = (c.loop-k.invariant.1, c.requires.growing.at.sides.rising-high)
@@ -42,14 +42,19 @@ list_one-requires c =
       );
     }
 
-pub returns-in_err-next : goal.returns-in_err-next
-returns-in_err-next c =
-    rw c.from_residual.ensures (side-over c.requires c.args.literal.sign c.loop-k.invariant.0 c.in_err-next.ensures)
+pub returns-in_err-next-clause-made : goal.returns-in_err-next-clause-made
+returns-in_err-next-clause-made c =
+    rw c.from_residual.ensures (side-over c.requires c.args.literal.sign c.loop-k.invariant.0 c.in_err-next.ensures.made)
 
 pub loop-k-preserved : goal.loop-k-preserved
 loop-k-preserved c =
-    let g = c.in_ok-next.ensures in
-    (side-next c.requires c.args.literal.sign c.loop-k.invariant.0 g.0 g.1 g.2 g.3, c.end_ahead-end.ensures.1)
+    let g = c.in_ok-next.ensures.made in
+    let l = c.list_one.ensures.same_loan in
+    let k = c.loop-k.invariant.2 in (
+      side-next c.requires c.args.literal.sign c.loop-k.invariant.0 g.0 g.1 g.2 g.3,
+      c.end_ahead-end.ensures.1,
+      (l.0 ∙ k.0, l.1 ∙ k.1),
+    )
 
-pub returns : goal.returns
-returns c = side-end c.requires c.args.literal.sign c.loop-k.invariant.0 (omega (arith, c.loop-k-test.false))
+pub returns-clause-made : goal.returns-clause-made
+returns-clause-made c = side-end c.requires c.args.literal.sign c.loop-k.invariant.0 (omega (arith, c.loop-k-test.false))

@@ -22,19 +22,19 @@ settle_row-requires c =
       at_in_bounds = (c.requires.paired.high-left, simp length-take (omega (arith, c.requires.has_halves.0)));
     }
 
-pub returns-in_err-c : goal.returns-in_err-c
-returns-in_err-c c =
-    rw c.from_residual.ensures (over-wider (least-turned c.requires.paired.growing.at.sides) c.in_err-c.ensures)
+pub returns-in_err-c-clause-made : goal.returns-in_err-c-clause-made
+returns-in_err-c-clause-made c =
+    rw c.from_residual.ensures (over-wider (least-turned c.requires.paired.growing.at.sides) c.in_err-c.ensures.made)
 
 pub moved-requires : goal.moved-requires
 moved-requires c =
     let q = c.requires.paired in
     omega (arith, q.high-left, q.growing.at.few-high)
 
-pub returns : goal.returns
-returns c =
+pub returns-clause-made : goal.returns-clause-made
+returns-clause-made c =
     let q = c.requires.paired in
     let h = least-turned q.growing.at.sides in
-    let g = c.in_ok-c.ensures in
+    let g = c.in_ok-c.ensures.made in
     let next = stepped-high q.growing.at (le_of_lt q.low-left) q.high-left g.3 in
     (grew-wider h g.0, kept-wider h g.1, g.2, rw (c.met.ensures, c.moved.ensures) next)

@@ -13,16 +13,16 @@ settle_row-requires c =
       at_in_bounds = (c.requires.paired.low-left, simp (length-take, length-drop) (omega (arith, c.requires.has_halves.1)));
     }
 
-pub returns-in_err-c : goal.returns-in_err-c
-returns-in_err-c c = rw c.from_residual.ensures c.in_err-c.ensures
+pub returns-in_err-c-clause-made : goal.returns-in_err-c-clause-made
+returns-in_err-c-clause-made c = rw c.from_residual.ensures c.in_err-c.ensures.made
 
 pub moved-requires : goal.moved-requires
 moved-requires c =
     let q = c.requires.paired in
     omega (arith, q.low-left, q.growing.at.few-low)
 
-pub returns : goal.returns
-returns c =
+pub returns-clause-made : goal.returns-clause-made
+returns-clause-made c =
     let q = c.requires.paired in
-    let g = c.in_ok-c.ensures in
+    let g = c.in_ok-c.ensures.made in
     (g.0, g.1, g.2, rw (c.moved.ensures, c.met.ensures) (stepped-low q.growing.at q.low-left (le_of_lt q.high-left) g.3))

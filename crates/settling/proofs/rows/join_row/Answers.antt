@@ -1,4 +1,4 @@
-use mathlib.Core.Path.{subst}
+use mathlib.Core.Path.{refl, subst, ◌∙◌}
 use native.Mathlib.Omega.{arith}
 use Rattle.terms.specs.declared.Term.{Term}
 use Rattle.lists.specs.List.{nth}
@@ -10,18 +10,18 @@ use Rattle.settling.proofs.rows.join_row.Goals as goal
 pub loop-j-init : goal.loop-j-init
 loop-j-init c =
     let x = c.args in
-    so-far-start c.requires.growing (nth x.a x.row.at) x.row.from 0
+    (so-far-start c.requires.growing (nth x.a x.row.at) x.row.from 0, (refl, refl))
 
 pub try_kept-tried-requires : goal.try_kept-tried-requires
 try_kept-tried-requires c =
-    let h = c.loop-j.invariant in
+    let h = c.loop-j.invariant.0 in
     let g = c.requires.growing in
     (h.room, h.keeps.room, omega arith, omega arith, g.at.few-high, omega (arith, c.loop-j-test.true))
 
 pub settle-requires : goal.settle-requires
 settle-requires c =
     let x = c.args in
-    let h = c.loop-j.invariant in
+    let h = c.loop-j.invariant.0 in
     let t : Term = nth x.a x.row.at in
     let u : Term = nth x.b c.loop-j.j in
     let looked : Tries c.loop-j.kept c.loop-j.counts.kept t u c.try_kept-tried.result =
@@ -33,13 +33,13 @@ settle-requires c =
       settled = (tried-settled t u h.keeps looked, looked.no);
     }
 
-pub returns-in_err-next : goal.returns-in_err-next
-returns-in_err-next c =
-    rw c.from_residual.ensures (so-far-over c.requires.growing c.loop-j.invariant c.in_err-next.ensures)
+pub returns-in_err-next-clause-made : goal.returns-in_err-next-clause-made
+returns-in_err-next-clause-made c =
+    rw c.from_residual.ensures (so-far-over c.requires.growing c.loop-j.invariant.0 c.in_err-next.ensures.made)
 
 pub spread_new-requires : goal.spread_new-requires
 spread_new-requires c = (
-  c.in_ok-next.ensures.1.room,
+  c.in_ok-next.ensures.made.1.room,
   c.bit_words-words.ensures.1,
   omega arith,
   omega arith,
@@ -47,7 +47,10 @@ spread_new-requires c = (
 
 pub loop-j-preserved : goal.loop-j-preserved
 loop-j-preserved c =
-    let g = c.in_ok-next.ensures in so-far-next c.requires.growing c.loop-j.invariant g.0 g.1 g.2 g.3
+    let g = c.in_ok-next.ensures.made in
+    let l = c.settle.ensures.same_loan in
+    let k = c.loop-j.invariant.1 in
+    (so-far-next c.requires.growing c.loop-j.invariant.0 g.0 g.1 g.2 g.3, (l.0 ∙ k.0, l.1 ∙ k.1))
 
-pub returns : goal.returns
-returns c = so-far-end c.requires.growing c.loop-j.invariant (omega (arith, c.loop-j-test.false))
+pub returns-clause-made : goal.returns-clause-made
+returns-clause-made c = so-far-end c.requires.growing c.loop-j.invariant.0 (omega (arith, c.loop-j-test.false))

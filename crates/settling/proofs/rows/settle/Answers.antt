@@ -13,8 +13,8 @@ use Rattle.settling.proofs.Grows.{recounted, grown-so}
 use Rattle.settling.proofs.Least.{joined}
 use Rattle.settling.proofs.rows.settle.Goals as goal
 
-pub returns-then-tried : goal.returns-then-tried
-returns-then-tried c =
+pub returns-then-tried-clause-made : goal.returns-then-tried-clause-made
+returns-then-tried-clause-made c =
     let g = c.requires.growing in
     (grew_none g.front, g.keeps, g.room, c.requires.settled.0 c.if-tried.true)
 
@@ -29,11 +29,11 @@ add_least-requires c =
           (c.requires.settled.1 c.if-tried.false));
     }
 
-pub returns : goal.returns
-returns c =
+pub returns-clause-made : goal.returns-clause-made
+returns-clause-made c =
     let x = c.args in
     let least : List Term = least_between x.a x.b in
     grown-so least least (λ l. Covered least l c.join-q.result)
     (λ l. Settled least l (nth x.a x.pair.low) (nth x.b x.pair.high)) _ _ _ _
     c.add_least.result
-    (λ l d. inr (subst (Covered least l) (c.join-q.ensures ∙ ap₂ join c.at.ensures c.at-2.ensures) d)) c.add_least.ensures
+    (λ l d. inr (subst (Covered least l) (c.join-q.ensures ∙ ap₂ join c.at.ensures c.at-2.ensures) d)) c.add_least.ensures.made

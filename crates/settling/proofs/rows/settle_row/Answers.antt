@@ -11,8 +11,8 @@ use Rattle.settling.proofs.Growth.{grew_none}
 use Rattle.settling.proofs.Looks.{row-covered}
 use Rattle.settling.proofs.rows.settle_row.Goals as goal
 
-pub returns-then-covers : goal.returns-then-covers
-returns-then-covers c =
+pub returns-then-covers-clause-made : goal.returns-then-covers-clause-made
+returns-then-covers-clause-made c =
     let x = c.args in
     let g = c.requires.growing in
     let found =

@@ -13,11 +13,10 @@ use Rattle.table.specs.declared.gates.Gate.{Gate}
 use Rattle.table.specs.declared.gates.Gate.TheVariants.{Constant, Literal, Decision, Conjunction, Unknown}
 use Rattle.terms.specs.Term.{terms_of}
 use Rattle.terms.specs.declared.Term.{Term}
-use Rattle.lists.specs.Capacity.{max_capacity}
 use Rattle.lists.proofs.Parts.{length-terms}
 use Rattle.insertion.specs.Filled.{masks_of}
 use Rattle.insertion.proofs.Parts.{terms-masks, length-masks, kept-count, kept_full, count_kept, full-kept}
-use Rattle.nodes.specs.Part.{gate_made, PairGiven, Given, terms_from, terms_at, laid_at, places, made_from, node_made, PartFilled}
+use Rattle.nodes.specs.Part.{gate_made, PairGiven, terms_from, terms_at, laid_at, places, made_from, node_made, PartFilled}
 use Rattle.nodes.specs.Part.{child_from, child_size, child_terms, NodeGiven, Laid}
 use Rattle.nodes.specs.declared.NodePart.{NodePart}
 use Rattle.nodes.specs.declared.Terms.{Terms}
@@ -38,22 +37,6 @@ places-more (Literal b x) count k h = absurd (omega arith)
 places-more (Decision x a b) count k h = absurd (omega arith)
 places-more Conjunction count k h = omega arith
 places-more Unknown count k h = absurd (omega arith)
-
--- ---- what is given of two lists is given of them in slices of the same lengths
-given-at : (g : Gate) (ap an bp bn : List ℕ) → length an ≡ length ap → length bn ≡ length bp → length ap ≤ max_capacity
-    → length bp ≤ max_capacity → PairGiven g (terms_of ap an) (terms_of bp bn) → Given g ap an bp bn
-given-at (Constant b) ap an bp bn ea eb fa fb h = tt
-given-at (Literal b x) ap an bp bn ea eb fa fb h = h
-given-at (Decision x l r) ap an bp bn ea eb fa fb h =
-    record {
-      at = record { even-low = ea; even-high = eb; few-low = fa; few-high = fb; sides = h.sides };
-      below = h.below;
-      not_low = h.not_low;
-      not-high = h.not-high;
-    }
-given-at Conjunction ap an bp bn ea eb fa fb h =
-    record { even-low = ea; even-high = eb; few-low = fa; few-high = fb; sides = h }
-given-at Unknown ap an bp bn ea eb fa fb h = tt
 
 -- the terms in two parts of the same length
 length_from : (s : Bool → List ℕ) (from n : ℕ) → from + n ≤ length (s true) → length (s false) ≡ length (s true)
@@ -229,28 +212,10 @@ module _ (s : Bool → List ℕ) (counts : List ℕ) (p : NodePart) where
         low-terms : terms_at s' low ≡ v k
         low-terms = ap₂ (terms_from s') f c ∙ ap₂ terms_of (child-same true) (child-same false)
 
-        abbrev part : Terms → Bool → List ℕ
-        part t b = take t.count (drop t.from (s' b))
-
-        part-size : (t : Terms) → t.count ≤ p.capacity → t.from + p.capacity ≤ length (s' true) → (b : Bool)
-            → length (part t b) ≡ t.count
-        part-size t few l true = length_part t.from t.count (s' true) (omega arith)
-        part-size t few l false = length_part t.from t.count (s' false) (let e = even in omega arith)
-
-        pub turn-given : Given p.gate (part low true) (part low false) (part high true) (part high false)
+        pub turn-given : PairGiven p.gate (terms_at s' low) (terms_at s' high)
         turn-given =
-            let r : Rooms = turn-rooms in
-            let small = lies.small in
-            let lt : length (part low true) ≡ low.count = part-size low r.0 r.2 true in
-            let lf : length (part low false) ≡ low.count = part-size low r.0 r.2 false in
-            let ht : length (part high true) ≡ high.count = part-size high r.1 r.3 true in
-            let hf : length (part high false) ≡ high.count = part-size high r.1 r.3 false in
-            let few-low = r.0 in
-            let few-high = r.1 in
-            given-at p.gate (part low true) (part low false) (part high true) (part high false) (lf ∙ sym lt) (hf ∙ sym ht)
-            (omega arith) (omega arith)
-            (subst (λ (a : List Term). PairGiven p.gate a (terms_at s' high)) (sym low-terms)
-            (subst (PairGiven p.gate (v k)) (sym j.terms) (pair k j.some)))
+            subst (λ (a : List Term). PairGiven p.gate a (terms_at s' high)) (sym low-terms)
+            (subst (PairGiven p.gate (v k)) (sym j.terms) (pair k j.some))
 
         -- what was made
         module _ (s'' : Bool → List ℕ) (r : Option ℕ) (filled : Filled (two_made (terms_at s' low) (terms_at s' high)) s' s'' r) where

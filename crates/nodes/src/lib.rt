@@ -11,7 +11,7 @@ ghost use Rattle.terms.specs.Order.{before};
 ghost use Rattle.terms.specs.Term.{empty, extend};
 ghost use Rattle.circuits.specs.Function.{signed};
 ghost use Rattle.lists.specs.Capacity.{max_capacity};
-ghost use Rattle.lists.specs.List.{by_sign, held, slots, terms_in};
+ghost use Rattle.lists.specs.List.{SameLoan, by_sign, held, slots, terms_in};
 ghost use Rattle.insertion.specs.Filled.{Filled};
 ghost use Rattle.settling.specs.Sides.{SidesAt};
 ghost use Rattle.nodes.specs.Part.{gate_made, node_made, Given, PairGiven, NodeGiven, terms_at, child_from, child_size, child_terms, Laid};
@@ -25,7 +25,8 @@ use terms::Term;
 // Makes the terms of a constant: the term with no literal, or none. How many they are, here and below; none where they are more than
 // there is room for.
 fn constant(list: &mut TermBuffer, value: bool) -> Option<usize>
-    ensures { Filled (cond value (empty ∷ []) []) (slots list.old) (slots list.new) result }
+    ensures made { Filled (cond value (empty ∷ []) []) (slots list.old) (slots list.new) result }
+    ensures same_loan { SameLoan list.old list.new }
 {
     let empty = terms::EMPTY;
     if value {
@@ -37,7 +38,8 @@ fn constant(list: &mut TermBuffer, value: bool) -> Option<usize>
 // Makes the term of a literal.
 fn literal(list: &mut TermBuffer, sign: bool, x: u32) -> Option<usize>
     requires { x < width }
-    ensures { Filled (extend empty x sign ∷ []) (slots list.old) (slots list.new) result }
+    ensures made { Filled (extend empty x sign ∷ []) (slots list.old) (slots list.new) result }
+    ensures same_loan { SameLoan list.old list.new }
 {
     let empty = terms::EMPTY;
     insertion::insert(list, 0, terms::extend(empty, x, sign))
@@ -56,8 +58,9 @@ fn signed(sign: bool, value: bool) -> bool
 // Makes the terms of a conjunction without a common variable, or of its negation, from those of two parts.
 fn conjoin(list: &mut TermBuffer, a: TermList, b: TermList, sign: bool) -> Option<usize>
     requires { SidesAt a b }
-    ensures { Filled (sort (before []) (conjunction_terms sign (terms_in a.entry) (terms_in b.entry)))
+    ensures made { Filled (sort (before []) (conjunction_terms sign (terms_in a.entry) (terms_in b.entry)))
         (slots list.old) (slots list.new) result }
+    ensures same_loan { SameLoan list.old list.new }
 {
     if sign {
         return joins::conjunction(list, a, b);
@@ -75,7 +78,8 @@ fn make(
     sign: bool,
 ) -> Option<usize>
     requires { Given gate a b }
-    ensures { Filled (gate_made sign gate (terms_in a.entry) (terms_in b.entry)) (slots list.old) (slots list.new) result }
+    ensures made { Filled (gate_made sign gate (terms_in a.entry) (terms_in b.entry)) (slots list.old) (slots list.new) result }
+    ensures same_loan { SameLoan list.old list.new }
 {
     match gate {
         Gate::Constant(value) => constant(list, signed(sign, value)),
@@ -84,6 +88,27 @@ fn make(
         Gate::Conjunction => conjoin(list, a, b, sign),
         Gate::Unknown => Some(0),
     }
+}
+
+// The same in two slices.
+fn make_in(
+    positives: &mut [u64],
+    negatives: &mut [u64],
+    a: TermList,
+    b: TermList,
+    gate: Gate,
+    sign: bool,
+) -> Option<usize>
+    requires given { Given gate a b }
+    requires same_length { length negatives.old ≡ length positives.old }
+    ensures { Filled (gate_made sign gate (terms_in a.entry) (terms_in b.entry)) (by_sign positives.old negatives.old)
+        (by_sign positives.new negatives.new) result }
+{
+    let mut list = TermBuffer {
+        positives,
+        negatives,
+    };
+    make(&mut list, a, b, gate, sign)
 }
 
 // Terms of a node in the buffers: the first place, and how many.
@@ -130,7 +155,8 @@ fn fill_part(
         × (part.low.from + part.capacity ≤ length positives.old) × (part.high.from + part.capacity ≤ length positives.old)
         × (part.at + part.capacity ≤ length positives.old) × (length negatives.old ≡ length positives.old) }
     requires has_place { HasPlace part.capacity low.old high.old }
-    ensures { PartFilled
+    ensures has_place { HasPlace part.capacity low.new high.new }
+    ensures made { PartFilled
         (gate_made part.sign part.gate (terms_at (by_sign positives.old negatives.old) part.low)
         (terms_at (by_sign positives.old negatives.old) part.high))
         part.at part.capacity (by_sign positives.old negatives.old) (by_sign positives.new negatives.new) result }
@@ -138,12 +164,9 @@ fn fill_part(
     copy_terms(low, positives, negatives, part.low);
     copy_terms(high, positives, negatives, part.high);
     let end = part.at + part.capacity;
-    let mut node = TermBuffer {
-        positives: &mut positives[part.at..end],
-        negatives: &mut negatives[part.at..end],
-    };
-    make(
-        &mut node,
+    make_in(
+        &mut positives[part.at..end],
+        &mut negatives[part.at..end],
         low.front(part.low.count),
         high.front(part.high.count),
         part.gate,

@@ -11,8 +11,8 @@ use Rattle.insertion.specs.Filled.{Filled}
 use Rattle.nodes.proofs.Both.{both-made}
 use Rattle.nodes.proofs.conjoin.Goals as goal
 
-pub returns-then-sign : goal.returns-then-sign
-returns-then-sign c =
+pub returns-then-sign-clause-made : goal.returns-then-sign-clause-made
+returns-then-sign-clause-made c =
     let x = c.args in
     let after : Bool → List _ = slots c.conjunction.new.list in
     subst
@@ -20,4 +20,4 @@ returns-then-sign c =
     Filled (sort (before []) (conjunction_terms sign (terms_in x.a) (terms_in x.b))) (slots x.list.now) after c.conjunction.result)
     (sym c.if-sign.true)
     (subst (λ (l : List Term). Filled l (slots x.list.now) after c.conjunction.result) (both-made c.requires.sides)
-    c.conjunction.ensures)
+    c.conjunction.ensures.made)

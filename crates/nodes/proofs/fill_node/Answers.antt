@@ -19,20 +19,20 @@ now l = by_sign l.loop-k.positives l.loop-k.negatives
 -- a turn is at the place before that of the loop
 this : (l : In-loop-k) → let x = l.args in
     Making (by_sign x.positives.now x.negatives.now) x.counts.now x.part (suc (l.loop-k.k - 1))
-    (by_sign l.loop-k.positives l.loop-k.negatives) l.loop-k.high
+    (by_sign l.loop-k.positives l.loop-k.negatives) l.loop-k.made
 this l =
     let x = l.args in
     let place : l.loop-k.k ≡ suc (l.loop-k.k - 1) = omega arith in
     subst
     (λ (k : ℕ). Making (by_sign x.positives.now x.negatives.now) x.counts.now x.part k
-    (by_sign l.loop-k.positives l.loop-k.negatives) l.loop-k.high) place l.loop-k.invariant
+    (by_sign l.loop-k.positives l.loop-k.negatives) l.loop-k.made) place l.loop-k.invariant.0
 
 pub overflow_sub-last : goal.overflow_sub-last
 overflow_sub-last c = omega (arith, c.places-last.ensures, c.requires.laid.1.two)
 
-pub child_at-high-requires : goal.child_at-high-requires
-child_at-high-requires c =
-    let s = (goal.at.child_at-high-requires c).Start in
+pub child_at-made-requires : goal.child_at-made-requires
+child_at-made-requires c =
+    let s = (goal.at.child_at-made-requires c).Start in
     let h = c.requires.laid in
     let b = last-below (lent s) c.args.counts.now c.args.part h.0 h.1 in
     let e = c.places-last.ensures in
@@ -45,15 +45,15 @@ pub loop-k-init : goal.loop-k-init
 loop-k-init c =
     let s = (goal.at.loop-k-init c).Start in
     let h = c.requires.laid in
-    making-start (lent s) c.args.counts.now c.args.part h.0 h.1 (c.places-last.result - 1) c.child_at-high.result
-    (ap (λ (n : ℕ). n - 1) c.places-last.ensures) c.child_at-high.ensures.0 c.child_at-high.ensures.1
+    (making-start (lent s) c.args.counts.now c.args.part h.0 h.1 (c.places-last.result - 1) c.child_at-made.result
+    (ap (λ (n : ℕ). n - 1) c.places-last.ensures) c.child_at-made.ensures.0 c.child_at-made.ensures.1, c.requires.has_place)
 
 pub child_at-requires : goal.child_at-requires
 child_at-requires c =
     let s = (goal.at.child_at-requires c).Start in
     let l = (goal.at.child_at-requires c).At-loop-k in
     let h = c.requires.laid in
-    let few = making-few (lent s) c.args.counts.now c.args.part h.0 h.1 c.loop-k.k (now l) c.loop-k.high c.loop-k.invariant in
+    let few = making-few (lent s) c.args.counts.now c.args.part h.0 h.1 c.loop-k.k (now l) c.loop-k.made c.loop-k.invariant.0 in
     record {
       k_lt_max_children = (omega arith, h.0.words (c.loop-k.k - 1));
       counts_len_bound = (h.0.nodes, h.0.small);
@@ -69,11 +69,11 @@ fill_part-requires c =
     let f = c.child_at.ensures.0 in
     let n = c.child_at.ensures.1 in
     let r =
-    turn-rooms (lent s) c.args.counts.now c.args.part h.0 h.1 (c.loop-k.k - 1) (now l) c.loop-k.high j low f n in
+    turn-rooms (lent s) c.args.counts.now c.args.part h.0 h.1 (c.loop-k.k - 1) (now l) c.loop-k.made j low f n in
     record {
-      given = turn-given (lent s) c.args.counts.now c.args.part h.0 h.1 (c.loop-k.k - 1) (now l) c.loop-k.high j low f n;
-      capacity_le_max_capacity = (h.0.small, r.0, r.1, r.2, r.3, r.4, r.5);
-      has_place = (omega arith, omega arith, omega arith, omega arith);
+      given = turn-given (lent s) c.args.counts.now c.args.part h.0 h.1 (c.loop-k.k - 1) (now l) c.loop-k.made j low f n;
+      room = (h.0.small, r.0, r.1, r.2, r.3, r.4, r.5);
+      has_place = c.loop-k.invariant.1;
     }
 
 pub returns-in_err-count : goal.returns-in_err-count
@@ -83,9 +83,9 @@ returns-in_err-count c =
     let j = this (goal.at.returns-in_err-count c).In-loop-k in
     let h = c.requires.laid in
     rw c.from_residual.ensures
-    (making-full (lent s) c.args.counts.now c.args.part h.0 h.1 (c.loop-k.k - 1) (now l) c.loop-k.high j c.child_at.result
+    (making-full (lent s) c.args.counts.now c.args.part h.0 h.1 (c.loop-k.k - 1) (now l) c.loop-k.made j c.child_at.result
     c.child_at.ensures.0 c.child_at.ensures.1 (by_sign c.fill_part.new.positives c.fill_part.new.negatives) None
-    c.in_err-count.ensures refl)
+    c.in_err-count.ensures.made refl)
 
 pub loop-k-preserved : goal.loop-k-preserved
 loop-k-preserved c =
@@ -94,9 +94,9 @@ loop-k-preserved c =
     let j = this (goal.at.loop-k-preserved c).In-loop-k in
     let h = c.requires.laid in
     let n : ℕ = c.in_ok-count.count in
-    making-more (lent s) c.args.counts.now c.args.part h.0 h.1 (c.loop-k.k - 1) (now l) c.loop-k.high j c.child_at.result
+    (making-more (lent s) c.args.counts.now c.args.part h.0 h.1 (c.loop-k.k - 1) (now l) c.loop-k.made j c.child_at.result
     c.child_at.ensures.0 c.child_at.ensures.1 (by_sign c.fill_part.new.positives c.fill_part.new.negatives) (Some n)
-    c.in_ok-count.ensures n refl
+    c.in_ok-count.ensures.made n refl, c.fill_part.ensures.has_place)
 
 pub returns : goal.returns
 returns c =
@@ -105,5 +105,5 @@ returns c =
     let x = c.args in
     let h = c.requires.laid in
     let none : c.loop-k.k ≡ 0 = omega arith in
-    making-end (lent s) x.counts.now x.part h.0 h.1 (now l) c.loop-k.high
-    (subst (λ (k : ℕ). Making (lent s) x.counts.now x.part k (now l) c.loop-k.high) none c.loop-k.invariant)
+    making-end (lent s) x.counts.now x.part h.0 h.1 (now l) c.loop-k.made
+    (subst (λ (k : ℕ). Making (lent s) x.counts.now x.part k (now l) c.loop-k.made) none c.loop-k.invariant.0)

@@ -24,7 +24,7 @@ use Rattle.listing.proofs.Bounds.{not-flip, Enough}
 use Rattle.listing.proofs.Last.{last-few, last-count, last-masks}
 use Rattle.filtered.specs.Exact.{last_terms, LastHeld, FilteredExact}
 use Rattle.filtered.specs.Filtered.{shown_primes, shown_masks}
-use Rattle.filtered.specs.declared.FilteredListing.TheVariants.{Listed, Refused}
+use Rattle.std.specs.Prelude.{Ok, Err}
 
 -- b' are the buffers b after a listing of the shape h, with the answer r
 module _ (m : List ℕ) (e : Exclusions) (w : List ℕ) (h : Shape) (b b' : Lent) (r : Bool)
@@ -93,7 +93,7 @@ module _ (m : List ℕ) (e : Exclusions) (w : List ℕ) (h : Shape) (b b' : Lent
 
     -- its terms were filtered
     pub exact-filtered : (s : Bool → List ℕ) (k : ℕ) → Filtered e (last_terms h b'.positives b'.negatives b'.counts) R s k
-        → FilteredExact m e N n F R b b' s (Listed k)
+        → FilteredExact m e N n F R b b' s (Ok k)
     unfolding shown_primes
     exact-filtered s k f =
         let kept : respecting e (last_terms h b'.positives b'.negatives b'.counts) ≡ shown_primes m e N n F =
@@ -110,7 +110,7 @@ module _ (m : List ℕ) (e : Exclusions) (w : List ℕ) (h : Shape) (b b' : Lent
 
   -- ---- 42
   pub exact-lack : (s : Bool → List ℕ) → r ≡ false → ((d : Bool) → s d ≡ replicate R 0)
-      → FilteredExact m e N n F R b b' s (Refused Capacity)
+      → FilteredExact m e N n F R b b' s (Err Capacity)
   exact-lack s none zeros =
       record {
         answer = ap (λ (q : Bool). cond q (refused 42 0) (answered (length (shown_primes m e N n F)))) (sym (over false none));

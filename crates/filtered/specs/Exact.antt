@@ -1,15 +1,15 @@
 -- What the inner functions of the filtered listing need, and what they leave. No public contract rests on these.
-use Rattle.std.specs.Prelude.{ℕ, pred, ◌*◌, ◌≤◌, ◌≡◌, Bool, cond, List, length, get_or, take, drop, replicate}
+use Rattle.std.specs.Prelude.{ℕ, pred, ◌*◌, ◌≤◌, ◌≡◌, Bool, cond, List, length, get_or, take, drop, replicate, Result}
 use Rattle.table.specs.Node.{max_nodes}
-use Rattle.table.specs.Outcome.{answered, refused}
+use Rattle.table.specs.Outcome.{answered, refused, outcome}
+use Rattle.table.specs.declared.Refusal.{Refusal}
 use Rattle.terms.specs.Term.{terms_of}
 use Rattle.terms.specs.declared.Term.{Term}
 use Rattle.exclusions.specs.Exclusions.{Exclusions}
 use Rattle.lists.specs.Capacity.{max_capacity}
 use Rattle.listing.specs.Listing.{exceeds, cleared, filled, Lent}
 use Rattle.listing.specs.declared.Shape.{Shape}
-use Rattle.filtered.specs.Filtered.{shown_primes, shown_masks, filtered}
-use Rattle.filtered.specs.declared.FilteredListing.{FilteredListing}
+use Rattle.filtered.specs.Filtered.{shown_primes, shown_masks}
 
 -- the terms in the last node's part of a listing's buffers, as many as its count says
 abbrev pub last_terms : Shape → List ℕ → List ℕ → List ℕ → List Term
@@ -30,7 +30,7 @@ pub record LastHeld (h : Shape) (ps ns cs : List ℕ) : Type 0 where
 
 -- a listing into the buffers b, and into buffers of just R entries for the shown list: they are b' and s then
 pub record FilteredExact (m : List ℕ) (e : Exclusions) (N n : ℕ) (F : ℕ → ℕ → Bool) (R : ℕ) (b b' : Lent) (s : Bool → List ℕ)
-    (r : FilteredListing) : Type 0 where
-  pub answer : filtered r ≡ cond (exceeds m N n F R) (refused 42 0) (answered (length (shown_primes m e N n F)))
+    (r : Result ℕ Refusal) : Type 0 where
+  pub answer : outcome r ≡ cond (exceeds m N n F R) (refused 42 0) (answered (length (shown_primes m e N n F)))
   pub nodes : b' ≡ (cond (exceeds m N n F R) (cleared n R b) (filled m N n F R b)).after
   pub shown : (d : Bool) → s d ≡ cond (exceeds m N n F R) (replicate R 0) (shown_masks m e N n F R d)

@@ -1,7 +1,8 @@
 -- The listing of the prime implicants ("clearances") of every node, with the list of the last node's that respect the exclusions ("the
 -- shown list") in buffers of its own. F is the function of each node, m has the weights and e the exclusions ("pairs").
-use Rattle.std.specs.Prelude.{ℕ, pred, ◌≡◌, Bool, true, false, ◌&&◌, cond, List, [], ◌∷◌, ◌++◌, map, leb, length, drop, replicate}
-use Rattle.table.specs.Outcome.{Outcome, answered, refused, refused_by}
+use Rattle.std.specs.Prelude.{ℕ, pred, ◌≡◌, Bool, true, false, ◌&&◌, cond, List, [], ◌∷◌, ◌++◌, map, leb, length, drop, replicate, Result}
+use Rattle.table.specs.Outcome.{Outcome, answered, refused, outcome}
+use Rattle.table.specs.declared.Refusal.{Refusal}
 use Rattle.terms.specs.Lists.{keep}
 use Rattle.terms.specs.Term.{mask}
 use Rattle.terms.specs.declared.Term.{Term}
@@ -11,8 +12,6 @@ use Rattle.circuits.specs.Check.{check}
 use Rattle.circuits.specs.Function.{function}
 use Rattle.listing.specs.Listing.{node_primes, padded, suffices, exceeds, cleared, filled, Lent}
 use Rattle.listing.specs.Guarded.{guarded, Out}
-use Rattle.filtered.specs.declared.FilteredListing.{FilteredListing}
-use Rattle.filtered.specs.declared.FilteredListing.TheVariants.{Listed, Refused}
 
 -- the prime implicants of the circuit, which is the last node, that respect the exclusions, in order
 unfoldable pub shown_primes : List ℕ → Exclusions → ℕ → ℕ → (ℕ → ℕ → Bool) → List Term
@@ -71,12 +70,7 @@ filtered_checked m e N n F R b c =
 unfoldable pub filtered_table : List ℕ → Exclusions → ℕ → ℕ → List ℕ → ℕ → FilteredLent → FilteredOut
 filtered_table m e N n w R b = filtered_checked m e N n (function w) R b (check N n w)
 
--- the value, or the number and the node, of each answer of the code
-abbrev pub filtered : FilteredListing → Outcome ℕ
-filtered (Listed c) = answered c
-filtered (Refused r) = refused_by r
-
 -- the listing answers and leaves in each of the five buffers what the outcome o says
-pub record Gives (o : FilteredOut) (b' : FilteredLent) (r : FilteredListing) : Type 0 where
-  pub answer : filtered r ≡ o.answer
+pub record Gives (o : FilteredOut) (b' : FilteredLent) (r : Result ℕ Refusal) : Type 0 where
+  pub answer : outcome r ≡ o.answer
   pub after : b' ≡ o.after

@@ -15,19 +15,11 @@ ghost use Rattle.listing.specs.Listing.{lent, suffices};
 ghost use Rattle.filtered.specs.Filtered.{filtered_lent, filtered_checked, filtered_table, Gives};
 ghost use Rattle.filtered.specs.Exact.{last_terms, LastHeld, FilteredExact};
 
-use buffers::zero_masks;
 use listing::Shape;
-use table::{Checked, MAX_VARIABLES, Refusal};
+use table::{MAX_VARIABLES, Refusal};
 
 // How many masks the pairs are folded into.
 const VARIABLES: usize = MAX_VARIABLES as usize;
-
-// What the listing answers: how many terms the shown list has; specs/Filtered.antt has the scope's numbers.
-#[derive(Clone, Copy)]
-pub enum FilteredListing {
-    Listed(u32),
-    Refused(Refusal),
-}
 
 // Copies the terms of the last node that respect the pairs into the shown list, of zeros before: how many they are.
 fn filter_last(
@@ -74,7 +66,7 @@ fn list_exact(
     firsts: &[u32],
     seconds: &[u32],
     shape: Shape,
-) -> FilteredListing
+) -> Result<u32, Refusal>
     requires words_value { (check shape.variables shape.nodes words.now ≡ accepted) × (fitting shape.variables weights.now ≡ true)
         × (proper shape.variables (exclusions firsts.now seconds.now) ≡ true) }
     requires counts_value { (suffices shape.nodes shape.capacity (lent positives.old negatives.old counts.old) ≡ true)
@@ -85,12 +77,12 @@ fn list_exact(
         (lent positives.new negatives.new counts.new)
         (by_sign shown_positives.new shown_negatives.new) result }
 {
-    zero_masks(shown_positives);
-    zero_masks(shown_negatives);
+    shown_positives.fill(0);
+    shown_negatives.fill(0);
     if !listing::list_ready(positives, negatives, counts, words, weights, shape) {
-        return FilteredListing::Refused(Refusal::Capacity);
+        return Err(Refusal::Capacity);
     }
-    FilteredListing::Listed(filter_last(
+    Ok(filter_last(
         shown_positives,
         shown_negatives,
         positives,
@@ -114,7 +106,7 @@ fn list_accepted(
     firsts: &[u32],
     seconds: &[u32],
     shape: Shape,
-) -> FilteredListing
+) -> Result<u32, Refusal>
     requires { check shape.variables shape.nodes words.now ≡ accepted }
     ensures { Gives (filtered_checked weights.now (exclusions firsts.now seconds.now)
         shape.variables shape.nodes (signed_function shape.sign words.now) shape.capacity
@@ -125,16 +117,16 @@ fn list_accepted(
 {
     let capacity = shape.capacity;
     if (shown_positives.len() < capacity) | (shown_negatives.len() < capacity) {
-        return FilteredListing::Refused(Refusal::Buffers);
+        return Err(Refusal::Buffers);
     }
     if !listing::is_enough(positives, negatives, counts, shape.nodes, capacity) {
-        return FilteredListing::Refused(Refusal::Buffers);
+        return Err(Refusal::Buffers);
     }
     if !weighing::fit(weights, shape.variables) {
-        return FilteredListing::Refused(Refusal::Weights);
+        return Err(Refusal::Weights);
     }
     if !exclusions::fit(firsts, seconds, shape.variables) {
-        return FilteredListing::Refused(Refusal::Exclusions);
+        return Err(Refusal::Exclusions);
     }
     list_exact(
         positives,
@@ -151,7 +143,7 @@ fn list_accepted(
 }
 
 // Lists the prime implicants of every node ("clearances"): those of node i from entry i × capacity on, in order by the weights, and their
-// number at entry i of the counts; and in the shown list those of the last node that respect the pairs.
+// number at entry i of the counts; and in the shown list those of the last node that respect the pairs. How many terms that list has.
 pub fn list(
     positives: &mut [u64],
     negatives: &mut [u64],
@@ -165,7 +157,7 @@ pub fn list(
     variables: u32,
     nodes: u32,
     capacity: u32,
-) -> FilteredListing
+) -> Result<u32, Refusal>
     ensures { Gives (filtered_table weights.now (exclusions firsts.now seconds.now)
         variables nodes words.now capacity
         (filtered_lent (lent positives.old negatives.old counts.old)
@@ -173,27 +165,23 @@ pub fn list(
         (filtered_lent (lent positives.new negatives.new counts.new)
         shown_positives.new shown_negatives.new) result }
 {
-    match checks::check(words, variables, nodes) {
-        Checked::Refused(refusal) => FilteredListing::Refused(refusal),
-        Checked::Accepted => {
-            let shape = Shape {
-                sign: true,
-                variables,
-                nodes: nodes as usize,
-                capacity: capacity as usize,
-            };
-            list_accepted(
-                positives,
-                negatives,
-                counts,
-                shown_positives,
-                shown_negatives,
-                words,
-                weights,
-                firsts,
-                seconds,
-                shape,
-            )
-        }
-    }
+    checks::check(words, variables, nodes)?;
+    let shape = Shape {
+        sign: true,
+        variables,
+        nodes: nodes as usize,
+        capacity: capacity as usize,
+    };
+    list_accepted(
+        positives,
+        negatives,
+        counts,
+        shown_positives,
+        shown_negatives,
+        words,
+        weights,
+        firsts,
+        seconds,
+        shape,
+    )
 }

@@ -5,7 +5,7 @@ use mathlib.Core.Bool.{Bool, true, false, not, cond}
 use mathlib.Core.List.{List, [], ◌++◌}
 use lib.Dec.{ltb}
 use lib.ListN.{length, drop, replicate}
-use Rattle.table.specs.Outcome.{accepted, number_of, node_of, refused_by}
+use Rattle.table.specs.Outcome.{accepted, number_of, node_of, refused_by, outcome}
 use Rattle.table.specs.declared.Refusal.{Refusal}
 use Rattle.table.specs.declared.Refusal.TheVariants.{Buffers, Weights, Capacity}
 use Rattle.terms.proofs.Embeddings.{primes-length}
@@ -13,11 +13,10 @@ use Rattle.weighing.specs.Weights.{fitting}
 use Rattle.circuits.specs.Check.{check}
 use Rattle.circuits.specs.Function.{signed_function}
 use Rattle.listing.specs.Exact.{Holds, Tried, Exact, Attempted}
-use Rattle.listing.specs.Listing.{listed_masks, listed_counts, suffices, exceeds, listed, ListResult, cleared, filled}
+use Rattle.listing.specs.Listing.{listed_masks, listed_counts, suffices, exceeds, ListResult, cleared, filled}
 use Rattle.listing.specs.Listing.{list_checked, list_table, lent, Lent, ListOut}
 use Rattle.listing.specs.Guarded.{untouched}
-use Rattle.listing.specs.declared.Listing.{Listing}
-use Rattle.listing.specs.declared.Listing.TheVariants.{Listed, Refused}
+use Rattle.std.specs.Prelude.{Result, Ok, Err}
 use Rattle.listing.proofs.Bounds.{not-flip}
 
 module _ (c : Bool) (m : List ℕ) (N n : ℕ) (w : List ℕ) (R : ℕ) (b : Lent) where
@@ -28,7 +27,7 @@ module _ (c : Bool) (m : List ℕ) (N n : ℕ) (w : List ℕ) (R : ℕ) (b : Len
   out = list_table c m N n w R b
 
   -- by the outcome
-  lists-by : (o : ListOut) (b' : Lent) (r : Listing) → out ≡ o → listed r ≡ o.answer → b' ≡ o.after → ListResult c m N n w R b b' r
+  lists-by : (o : ListOut) (b' : Lent) (r : Result (Unit {0}) Refusal) → out ≡ o → outcome r ≡ o.answer → b' ≡ o.after → ListResult c m N n w R b b' r
   lists-by o b' r e h a =
       let left : b' ≡ out.after = a ∙ ap (λ (z : ListOut). z.after) (sym e) in
       record {
@@ -39,10 +38,10 @@ module _ (c : Bool) (m : List ℕ) (N n : ℕ) (w : List ℕ) (R : ℕ) (b : Len
       }
 
   -- ---- 21 to 25
-  pub lists-refused : (r : Refusal) → refused_by r ≡ check N n w → ListResult c m N n w R b b (Refused r)
+  pub lists-refused : (r : Refusal) → refused_by r ≡ check N n w → ListResult c m N n w R b b (Err r)
   unfolding list_table
   lists-refused r e =
-      lists-by (untouched (number_of r) (node_of r) b) b (Refused r) (ap (list_checked m N n F R b) (sym e)) refl refl
+      lists-by (untouched (number_of r) (node_of r) b) b (Err r) (ap (list_checked m N n F R b) (sym e)) refl refl
 
   module _ (acc : check N n w ≡ accepted) where
     pub out-is : (x y z : Bool) → suffices n R b ≡ x → fitting N m ≡ y → exceeds m N n F R ≡ z
@@ -53,13 +52,13 @@ module _ (c : Bool) (m : List ℕ) (N n : ℕ) (w : List ℕ) (R : ℕ) (b : Len
         ∙ (λ i. cond (e i) (cond (f i) (cond (d i) (cleared n R b) (filled m N n F R b)) (untouched 56 0 b)) (untouched 41 0 b))
 
     -- ---- 41, and 56
-    pub lists-short : suffices n R b ≡ false → ListResult c m N n w R b b (Refused Buffers)
+    pub lists-short : suffices n R b ≡ false → ListResult c m N n w R b b (Err Buffers)
     lists-short e =
-        lists-by (untouched 41 0 b) b (Refused Buffers) (out-is false (fitting N m) (exceeds m N n F R) e refl refl) refl refl
+        lists-by (untouched 41 0 b) b (Err Buffers) (out-is false (fitting N m) (exceeds m N n F R) e refl refl) refl refl
 
-    pub lists-unweighed : suffices n R b ≡ true → fitting N m ≡ false → ListResult c m N n w R b b (Refused Weights)
+    pub lists-unweighed : suffices n R b ≡ true → fitting N m ≡ false → ListResult c m N n w R b b (Err Weights)
     lists-unweighed e f =
-        lists-by (untouched 56 0 b) b (Refused Weights) (out-is true false (exceeds m N n F R) e f refl) refl refl
+        lists-by (untouched 56 0 b) b (Err Weights) (out-is true false (exceeds m N n F R) e f refl) refl refl
 
     -- ---- both tests are passed
     module _ (enough : suffices n R b ≡ true) (fits : fitting N m ≡ true) (b' : Lent) (r : Bool) (x : Attempted m N n F R b b' r) where
@@ -69,13 +68,13 @@ module _ (c : Bool) (m : List ℕ) (N n : ℕ) (w : List ℕ) (R : ℕ) (b : Len
       left : (y : Bool) → r ≡ y → b' ≡ (cond y (filled m N n F R b) (cleared n R b)).after
       left y e = x.after ∙ ap (λ (q : Bool). (cond q (filled m N n F R b) (cleared n R b)).after) e
 
-      pub lists-all : r ≡ true → ListResult c m N n w R b b' Listed
+      pub lists-all : r ≡ true → ListResult c m N n w R b b' (Ok tt)
       lists-all e =
-          lists-by (filled m N n F R b) b' Listed (out-is true true false enough fits (over true e)) refl (left true e)
+          lists-by (filled m N n F R b) b' (Ok tt) (out-is true true false enough fits (over true e)) refl (left true e)
 
-      pub lists-lack : r ≡ false → ListResult c m N n w R b b' (Refused Capacity)
+      pub lists-lack : r ≡ false → ListResult c m N n w R b b' (Err Capacity)
       lists-lack e =
-          lists-by (cleared n R b) b' (Refused Capacity) (out-is true true true enough fits (over false e)) refl (left false e)
+          lists-by (cleared n R b) b' (Err Capacity) (out-is true true true enough fits (over false e)) refl (left false e)
 
 -- ---- the front of each buffer was listed in
 module _ (m : List ℕ) (N n : ℕ) (F : ℕ → ℕ → Bool) (R : ℕ) (b : Lent) (s : Bool → List ℕ) (cs : List ℕ) where

@@ -1,10 +1,10 @@
 -- The listing of the prime implicants ("clearances") of every node, or of every node's negation ("blockers"), in lent buffers, and
 -- the view of one node's. F is the function of each node that is listed, and m has the weights of the variables ("minutes").
-use Rattle.std.specs.Prelude.{ℕ, pred, ◌-◌, ◌+◌, ◌*◌, ◌≡◌, Bool, true, false, ◌&&◌, cond, ltb, leb, length, take, drop, replicate}
+use Rattle.std.specs.Prelude.{ℕ, pred, ◌-◌, ◌+◌, ◌*◌, ◌≡◌, Bool, true, false, ◌&&◌, cond, ltb, leb, length, take, drop, replicate, Result}
 use mathlib.Core.List.{List, [], ◌∷◌, ◌++◌, map, flat_map}
 use Rattle.masks.specs.Numbers.{below}
 use Rattle.table.specs.Node.{max_nodes}
-use Rattle.table.specs.Outcome.{Outcome, answered, refused, refused_by}
+use Rattle.table.specs.Outcome.{Outcome, answered, refused, outcome}
 use Rattle.terms.specs.Prime.{primes}
 use Rattle.terms.specs.Term.{mask}
 use Rattle.terms.specs.declared.Term.{Term}
@@ -13,8 +13,7 @@ use Rattle.circuits.specs.Check.{check}
 use Rattle.circuits.specs.Function.{signed_function}
 use Rattle.lists.specs.Capacity.{max_capacity}
 use Rattle.listing.specs.Guarded.{guarded, Out}
-use Rattle.listing.specs.declared.Listing.{Listing}
-use Rattle.listing.specs.declared.Listing.TheVariants.{Listed, Refused}
+use Rattle.table.specs.declared.Refusal.{Refusal}
 
 -- the prime implicants of node i over N variables, in order
 abbrev pub node_primes : List ℕ → ℕ → (ℕ → ℕ → Bool) → ℕ → List Term
@@ -84,14 +83,9 @@ list_checked m N n F R b c =
 unfoldable pub list_table : Bool → List ℕ → ℕ → ℕ → List ℕ → ℕ → Lent → ListOut
 list_table c m N n w R b = list_checked m N n (signed_function c w) R b (check N n w)
 
--- the number and the node of each answer of the code
-abbrev pub listed : Listing → Outcome (Unit {0})
-listed Listed = answered tt
-listed (Refused r) = refused_by r
-
 -- what the listing answers, and what it leaves in each buffer, for all inputs
-pub record ListResult (c : Bool) (m : List ℕ) (N n : ℕ) (w : List ℕ) (R : ℕ) (b b' : Lent) (r : Listing) : Type 0 where
-  pub answer : listed r ≡ (list_table c m N n w R b).answer
+pub record ListResult (c : Bool) (m : List ℕ) (N n : ℕ) (w : List ℕ) (R : ℕ) (b b' : Lent) (r : Result (Unit {0}) Refusal) : Type 0 where
+  pub answer : outcome r ≡ (list_table c m N n w R b).answer
   pub positives : b'.positives ≡ (list_table c m N n w R b).after.positives
   pub negatives : b'.negatives ≡ (list_table c m N n w R b).after.negatives
   pub counts : b'.counts ≡ (list_table c m N n w R b).after.counts

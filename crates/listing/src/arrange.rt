@@ -25,8 +25,7 @@ fn arrange_nodes(
 {
     let mut sums = [0u16; weighing::SUMS];
     weighing::fill(&mut sums, weights);
-    let mut i = 0;
-    while i < shape.nodes {
+    for i in 0..shape.nodes {
         let at = i * shape.capacity;
         let end = at + (counts[i] as usize);
         arranging::arrange(
@@ -37,7 +36,6 @@ fn arrange_nodes(
             copy,
             &sums,
         );
-        i += 1;
     }
 }
 

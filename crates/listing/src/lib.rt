@@ -16,20 +16,11 @@ ghost use Rattle.listing.specs.Listing.{lent, ListResult, suffices, viewed};
 mod arrange;
 
 use arrange::arrange_all;
-use buffers::{zero_masks, zero_words};
-use insertion::Kept;
 use lists::MAX_CAPACITY;
-use table::{Checked, MAX_NODES, Refusal};
+use table::{MAX_NODES, Refusal};
 
 // The capacity up to which scratch is small.
 pub const SMALL: usize = 256;
-
-// What a listing answers; specs/Listing.antt has the scope's numbers.
-#[derive(Clone, Copy)]
-pub enum Listing {
-    Listed,
-    Refused(Refusal),
-}
 
 // The part of the buffer that holds the first count entries of the node; the empty part for arguments out of range.
 pub fn view(buffer: &[u64], capacity: u32, node: u32, count: u32) -> &[u64]
@@ -57,9 +48,9 @@ fn clear(positives: &mut [u64], negatives: &mut [u64], counts: &mut [u32])
         × (negatives.new ≡ replicate (length negatives.old) 0)
         × (counts.new ≡ replicate (length counts.old) 0) }
 {
-    zero_masks(positives);
-    zero_masks(negatives);
-    zero_words(counts);
+    positives.fill(0);
+    negatives.fill(0);
+    counts.fill(0);
 }
 
 // What is listed: the nodes' functions or, where the sign is false, their negations; how many variables and nodes the circuit has, and
@@ -90,15 +81,12 @@ fn fill_nodes(
     ensures { Tried shape.variables shape.nodes (signed_function shape.sign words.now) shape.capacity
         (by_sign positives.new negatives.new) counts.new result }
 {
-    let mut i = 0;
-    while i < shape.nodes {
+    for i in 0..shape.nodes {
         let part = nodes::part_of(words, i, shape.capacity, shape.sign);
-        let Kept::Count(c) = nodes::fill_node(positives, negatives, ap, an, bp, bn, counts, part)
-        else {
+        let Some(c) = nodes::fill_node(positives, negatives, ap, an, bp, bn, counts, part) else {
             return false;
         };
         counts[i] = c as u32;
-        i += 1;
     }
     true
 }
@@ -242,7 +230,7 @@ pub fn list_accepted(
     words: &[u32],
     weights: &[u32],
     shape: Shape,
-) -> Listing
+) -> Result<(), Refusal>
     requires { check shape.variables shape.nodes words.now ≡ accepted }
     ensures { ListResult shape.sign weights.now shape.variables shape.nodes words.now
         shape.capacity
@@ -250,15 +238,15 @@ pub fn list_accepted(
         (lent positives.new negatives.new counts.new) result }
 {
     if !is_enough(positives, negatives, counts, shape.nodes, shape.capacity) {
-        return Listing::Refused(Refusal::Buffers);
+        return Err(Refusal::Buffers);
     }
     if !weighing::fit(weights, shape.variables) {
-        return Listing::Refused(Refusal::Weights);
+        return Err(Refusal::Weights);
     }
     if list_ready(positives, negatives, counts, words, weights, shape) {
-        return Listing::Listed;
+        return Ok(());
     }
-    Listing::Refused(Refusal::Capacity)
+    Err(Refusal::Capacity)
 }
 
 // Lists the prime implicants of every node's negation ("blockers"): those of node i from entry i × capacity on, in order by the weights,
@@ -272,21 +260,17 @@ pub fn list_negation(
     variables: u32,
     nodes: u32,
     capacity: u32,
-) -> Listing
+) -> Result<(), Refusal>
     ensures { ListResult false weights.now variables nodes words.now capacity
         (lent positives.old negatives.old counts.old)
         (lent positives.new negatives.new counts.new) result }
 {
-    match checks::check(words, variables, nodes) {
-        Checked::Refused(refusal) => Listing::Refused(refusal),
-        Checked::Accepted => {
-            let shape = Shape {
-                sign: false,
-                variables,
-                nodes: nodes as usize,
-                capacity: capacity as usize,
-            };
-            list_accepted(positives, negatives, counts, words, weights, shape)
-        }
-    }
+    checks::check(words, variables, nodes)?;
+    let shape = Shape {
+        sign: false,
+        variables,
+        nodes: nodes as usize,
+        capacity: capacity as usize,
+    };
+    list_accepted(positives, negatives, counts, words, weights, shape)
 }

@@ -19,7 +19,9 @@ use Rattle.circuits.specs.Check.{check, rules}
 use Rattle.circuits.specs.Function.{function}
 use Rattle.listing.specs.Listing.{lent, suffices, Lent}
 use Rattle.filtered.specs.Filtered.{filtered_lent, filtered_checked, filtered_table, filtered, Gives, FilteredLent, FilteredOut}
-use Rattle.filtered.specs.declared.FilteredListing.{FilteredListing}
+use Rattle.std.specs.Prelude.{Result}
+use Rattle.table.specs.Outcome.{outcome}
+use Rattle.table.specs.declared.Refusal.{Refusal}
 use Rattle.program.specs.Program.{program_bytes, program_words, program_nodes, program_capacity, program_reading, program_listing}
 
 -- ---- reading, by the text's length
@@ -62,8 +64,8 @@ module _ (N n : ℕ) (w : List ℕ) (b : Lent) where
 
   -- what such a listing gives is what the program's gives
   pub given : {m fs ss : List ℕ} → m ≡ take N (replicate max_variables 0) → fs ≡ [] → ss ≡ []
-      → {b' : FilteredLent} {r : FilteredListing} → Gives (lists m fs ss) b' r
-      → (filtered r ≡ (program_listing N n w b).answer) × (b'.nodes ≡ (program_listing N n w b).after.nodes)
+      → {b' : FilteredLent} {r : Result ℕ Refusal} → Gives (lists m fs ss) b' r
+      → (outcome r ≡ (program_listing N n w b).answer) × (b'.nodes ≡ (program_listing N n w b).after.nodes)
   given {m} {fs} {ss} p q s g =
       let e : lists m fs ss ≡ program_listing N n w b = (λ i. lists (p i) (q i) (s i)) ∙ weightless in (
         g.answer ∙ ap (λ (o : FilteredOut). o.answer) e,

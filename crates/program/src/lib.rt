@@ -2,13 +2,12 @@
 #![tactic(auto)]
 
 ghost use Rattle.std.specs.Prelude.{◌≡◌, true, take};
+ghost use Rattle.table.specs.Outcome.{outcome};
 ghost use Rattle.text.specs.Answers.{reading_of};
 ghost use Rattle.listing.specs.Listing.{lent, suffices};
-ghost use Rattle.filtered.specs.Filtered.{filtered};
 ghost use Rattle.program.specs.Program.{program_nodes, program_capacity, program_reading, program_listing};
 
-use filtered::FilteredListing;
-use table::MAX_VARIABLES;
+use table::{MAX_VARIABLES, Refusal};
 use table::layout::NODE_WORDS;
 use text::answer::{Fault, Reading};
 use text_reader::reader::read;
@@ -63,8 +62,8 @@ pub fn list(
     words: &[u32],
     variables: u32,
     nodes: u32,
-) -> FilteredListing
-    ensures result_value { filtered result ≡ (program_listing variables nodes words.now
+) -> Result<u32, Refusal>
+    ensures result_value { outcome result ≡ (program_listing variables nodes words.now
         (lent positives.old negatives.old counts.old)).answer }
     ensures counts_after { lent positives.new negatives.new counts.new
         ≡ (program_listing variables nodes words.now

@@ -16,7 +16,7 @@ use Rattle.queries.specs.Queries.{circuit}
 use Rattle.lists.specs.List.{by_sign}
 use Rattle.insertion.specs.Filled.{masks_of}
 use Rattle.listing.specs.Listing.{suffices, exceeds, filled, list_table, ListResult, Lent, ListOut}
-use Rattle.listing.specs.declared.Listing.TheVariants.{Listed}
+use Rattle.std.specs.Prelude.{Ok}
 use Rattle.listing.proofs.Answers.{out-is}
 use Rattle.listing.proofs.Bounds.{enough, Enough}
 use Rattle.listing.proofs.Last.{last-few, last-count, last-masks}
@@ -73,7 +73,7 @@ module _ (m : List ℕ) (N n : ℕ) (w : List ℕ) (R : ℕ) (b : Lent) (acc : c
 
 -- what the walk needs of it
 pub walk-ready : (m : List ℕ) (h : Plan) (w : List ℕ) (R k c : ℕ) (b b' : Lent) → StepsReady h w k c
-    → ListResult true m h.variables h.nodes w R b b' Listed → length b'.positives ≡ length b.positives
+    → ListResult true m h.variables h.nodes w R b b' (Ok tt) → length b'.positives ≡ length b.positives
     → length b'.negatives ≡ length b.negatives → length b'.counts ≡ length b.counts → WalkReady h w b' R k c
 walk-ready m h w R k c b b' s r p q e =
     let N : ℕ = h.variables in

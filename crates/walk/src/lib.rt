@@ -2,7 +2,7 @@
 #![tactic(auto)]
 
 ghost use Rattle.std.specs.Prelude.{◌≡◌, true, not, ◌<◌, ◌≤◌, T, length};
-ghost use Rattle.table.specs.Outcome.{accepted, answered};
+ghost use Rattle.table.specs.Outcome.{accepted};
 ghost use Rattle.steps.specs.Steps.{steps_in};
 ghost use Rattle.terms.specs.Completions.{status};
 ghost use Rattle.terms.specs.Lists.{keep};
@@ -11,57 +11,66 @@ ghost use Rattle.circuits.specs.Check.{check};
 ghost use Rattle.lists.specs.Capacity.{max_capacity};
 ghost use Rattle.queries.specs.Queries.{circuit};
 ghost use Rattle.listing.specs.Listing.{lent};
-ghost use Rattle.walk.specs.Answers.{steps_outcome, walked_outcome, WalkResult};
+ghost use Rattle.walk.specs.Answers.{steps_outcome, settled_step, WalkResult};
 ghost use Rattle.walk.specs.Known.{act_state};
 ghost use Rattle.walk.specs.Ready.{JudgeReady, WalkReady, Judged};
+ghost use Rattle.walk.specs.declared.WalkRefusal.TheVariants.{Step, Table};
 ghost use Rattle.walk.specs.Walk.{check_steps, settled, walk_lent};
 
-use listing::{Listing, Shape};
+use listing::Shape;
 use states::State;
 use steps::{Columns, MAX_STEPS};
-use table::{Checked, Refusal};
+use table::Refusal;
 use terms::Term;
 
 // What is wrong with the steps, by the lowest; specs/Answers.antt has the scope's numbers.
 #[derive(Clone, Copy)]
-pub enum StepsChecked {
-    Accepted,
+pub enum StepFault {
     // an act above 2, or a step beyond 256
     Act(usize),
     // a variable out of range
     Variable(usize),
 }
 
-// What a walk answers; specs/Answers.antt has the scope's numbers.
+// Why a walk is refused; specs/Answers.antt has the scope's numbers.
 #[derive(Clone, Copy)]
-pub enum Walked {
-    // the first step from which on every status is Satisfied ("allowed")
-    Settled(usize),
-    // there is no such step
-    Unsettled,
-    Act(usize),
-    Variable(usize),
-    Refused(Refusal),
+pub enum WalkRefusal {
+    Step(StepFault),
+    Table(Refusal),
+}
+
+impl From<StepFault> for WalkRefusal {
+    ghost from_gives = { λ fault why. why ≡ Step fault };
+
+    fn from(fault: StepFault) -> WalkRefusal {
+        WalkRefusal::Step(fault)
+    }
+}
+
+impl From<Refusal> for WalkRefusal {
+    ghost from_gives = { λ refusal why. why ≡ Table refusal };
+
+    fn from(refusal: Refusal) -> WalkRefusal {
+        WalkRefusal::Table(refusal)
+    }
 }
 
 // The check of the first k steps. No more than 257 are looked at.
-fn check_steps(columns: Columns, k: usize, variables: u32) -> StepsChecked
+fn check_steps(columns: Columns, k: usize, variables: u32) -> Result<(), StepFault>
     ensures { steps_outcome result ≡ check_steps variables 0 (steps_in columns k) }
 {
-    let mut i = 0;
-    while i < k {
+    for i in 0..k {
         if MAX_STEPS <= i {
-            return StepsChecked::Act(i);
+            return Err(StepFault::Act(i));
         }
         if 2 < columns.acts[i] {
-            return StepsChecked::Act(i);
+            return Err(StepFault::Act(i));
         }
         if variables <= columns.variables[i] {
-            return StepsChecked::Variable(i);
+            return Err(StepFault::Variable(i));
         }
-        i += 1;
     }
-    StepsChecked::Accepted
+    Ok(())
 }
 
 // The state that an act puts its variable into. No act above 2 is walked: `check_steps` refuses it.
@@ -92,13 +101,11 @@ fn count_compatible(positives: &[u64], negatives: &[u64], t: Term) -> u32
     ensures { result ≡ length (keep (λ u. not (conflict u t)) (terms_of positives.now negatives.now)) }
 {
     let mut found: u32 = 0;
-    let mut k = 0;
-    while k < positives.len() {
+    for k in 0..positives.len() {
         let u = lists::term_at(positives, negatives, k);
         if !terms::conflict(u, t) {
             found += 1;
         }
-        k += 1;
     }
     found
 }
@@ -126,18 +133,16 @@ fn judge_steps(
 {
     let columns = plan.columns;
     let mut known = terms::EMPTY;
-    let mut i = 0;
-    while i < statuses.len() {
+    for i in 0..statuses.len() {
         known = states::with_state(known, columns.variables[i], act_state(columns.acts[i]));
         statuses[i] = status_under(words, plan.variables, plan.nodes, known);
         compatibles[i] = count_compatible(positives, negatives, known);
-        i += 1;
     }
 }
 
-// The first step from which on every status is Satisfied: looked for from the last step on.
-fn settled_from(statuses: &[u32]) -> Walked
-    ensures { walked_outcome result ≡ answered (settled statuses.now) }
+// The first step from which on every status is Satisfied ("allowed"), if there is one: looked for from the last step on.
+fn settled_from(statuses: &[u32]) -> Option<usize>
+    ensures { settled_step result ≡ settled statuses.now }
 {
     let mut k = statuses.len();
     while 0 < k {
@@ -147,9 +152,9 @@ fn settled_from(statuses: &[u32]) -> Walked
         k -= 1;
     }
     if k < statuses.len() {
-        return Walked::Settled(k);
+        return Some(k);
     }
-    Walked::Unsettled
+    None
 }
 
 // The entries of good steps, and the answer: the prime implicants of the last node stand in its part of the listing.
@@ -162,10 +167,10 @@ fn walk_listed(
     counts: &[u32],
     plan: Plan,
     capacity: usize,
-) -> Walked
+) -> Option<usize>
     requires { WalkReady plan words.now (lent positives.now negatives.now counts.now) capacity
         (length statuses.old) (length compatibles.old) }
-    ensures result_value { walked_outcome result ≡ answered (settled statuses.new) }
+    ensures result_value { settled_step result ≡ settled statuses.new }
     ensures judged { Judged plan words.now (length statuses.old) statuses.new compatibles.new }
 {
     let last = plan.nodes - 1;
@@ -194,7 +199,7 @@ fn walk_accepted(
     plan: Plan,
     k: usize,
     capacity: usize,
-) -> Walked
+) -> Result<Option<usize>, WalkRefusal>
     requires { (check plan.variables plan.nodes words.now ≡ accepted)
         × (check_steps plan.variables 0 (steps_in plan.columns k) ≡ accepted) }
     ensures { WalkResult weights.now plan.variables plan.nodes words.now capacity
@@ -205,7 +210,7 @@ fn walk_accepted(
         statuses.new compatibles.new) result }
 {
     if (statuses.len() < k) | (compatibles.len() < k) {
-        return Walked::Refused(Refusal::Buffers);
+        return Err(WalkRefusal::Table(Refusal::Buffers));
     }
     let shape = Shape {
         sign: true,
@@ -213,19 +218,17 @@ fn walk_accepted(
         nodes: plan.nodes,
         capacity,
     };
-    match listing::list_accepted(positives, negatives, counts, words, weights, shape) {
-        Listing::Refused(why) => Walked::Refused(why),
-        Listing::Listed => walk_listed(
-            &mut statuses[..k],
-            &mut compatibles[..k],
-            words,
-            positives,
-            negatives,
-            counts,
-            plan,
-            capacity,
-        ),
-    }
+    listing::list_accepted(positives, negatives, counts, words, weights, shape)?;
+    Ok(walk_listed(
+        &mut statuses[..k],
+        &mut compatibles[..k],
+        words,
+        positives,
+        negatives,
+        counts,
+        plan,
+        capacity,
+    ))
 }
 
 // Walks the first k steps through the circuit, with a weight for each variable and room for so many rows a node. One lifetime serves all
@@ -243,37 +246,30 @@ pub fn walk<'b>(
     columns: Columns,
     k: usize,
     capacity: u32,
-) -> Walked
+) -> Result<Option<usize>, WalkRefusal>
     ensures { WalkResult weights.now variables nodes words.now capacity (steps_in columns k)
         (walk_lent (lent positives.old negatives.old counts.old)
         statuses.old compatibles.old)
         (walk_lent (lent positives.new negatives.new counts.new)
         statuses.new compatibles.new) result }
 {
-    match checks::check(words, variables, nodes) {
-        Checked::Refused(why) => Walked::Refused(why),
-        Checked::Accepted => match check_steps(columns, k, variables) {
-            StepsChecked::Act(i) => Walked::Act(i),
-            StepsChecked::Variable(i) => Walked::Variable(i),
-            StepsChecked::Accepted => {
-                let plan = Plan {
-                    columns,
-                    variables,
-                    nodes: nodes as usize,
-                };
-                walk_accepted(
-                    positives,
-                    negatives,
-                    counts,
-                    statuses,
-                    compatibles,
-                    words,
-                    weights,
-                    plan,
-                    k,
-                    capacity as usize,
-                )
-            }
-        },
-    }
+    checks::check(words, variables, nodes)?;
+    check_steps(columns, k, variables)?;
+    let plan = Plan {
+        columns,
+        variables,
+        nodes: nodes as usize,
+    };
+    walk_accepted(
+        positives,
+        negatives,
+        counts,
+        statuses,
+        compatibles,
+        words,
+        weights,
+        plan,
+        k,
+        capacity as usize,
+    )
 }

@@ -40,9 +40,9 @@ returns-then-not-list_ready c =
     exact-lack _ _ x.words.now x.shape _ _ c.list_ready.result c.requires.words_value.0 c.list_ready.ensures _
     c.if-not-list_ready.true
     (λ d.
-    elim d as (λ d. by_sign c.zero_masks.new.buffer c.zero_masks-2.new.buffer d ≡ replicate R 0) [
-      | true ↦ zeros_of R _ x.shown_positives.now c.zero_masks.ensures c.requires.counts_value.1
-      | false ↦ zeros_of R _ x.shown_negatives.now c.zero_masks-2.ensures c.requires.counts_value.2
+    elim d as (λ d. by_sign c.fill.new.self c.fill-2.new.self d ≡ replicate R 0) [
+      | true ↦ zeros_of R _ x.shown_positives.now (c.fill.ensures.after (λ y e. e)) c.requires.counts_value.1
+      | false ↦ zeros_of R _ x.shown_negatives.now (c.fill-2.ensures.after (λ y e. e)) c.requires.counts_value.2
     ])
 
 -- the listing is done
@@ -61,8 +61,8 @@ filter_last-requires c =
         c.requires.words_value.2,
       );
       shown_positives_value = (
-        zeros_of R _ x.shown_positives.now c.zero_masks.ensures c.requires.counts_value.1,
-        zeros_of R _ x.shown_negatives.now c.zero_masks-2.ensures c.requires.counts_value.2,
+        zeros_of R _ x.shown_positives.now (c.fill.ensures.after (λ y e. e)) c.requires.counts_value.1,
+        zeros_of R _ x.shown_negatives.now (c.fill-2.ensures.after (λ y e. e)) c.requires.counts_value.2,
       );
     }
 

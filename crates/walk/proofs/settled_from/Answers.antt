@@ -4,7 +4,6 @@ use mathlib.Core.Logic.{◌⊎◌, inl, inr, ◌≢◌}
 use native.Mathlib.Omega.{arith}
 use native.Mathlib.Nat.{le_refl}
 use lib.ListN.{length, get_or}
-use Rattle.table.specs.Outcome.{answered}
 use Rattle.walk.proofs.Settled.{allowed-end, allowed-more, settled_at, settled-nowhere}
 use mathlib.Core.List.{List}
 use Rattle.walk.proofs.settled_from.Goals as goal
@@ -32,7 +31,7 @@ returns-then-k-statuses c =
       | else-loop-k-test w ↦ inl (omega (arith, w.loop-k-test.false))
       | then-loop-k-test+then-statuses-k-ne2 w ↦ inr w.if-statuses-k-ne2.true
     ] in
-    ap answered (settled_at l k c.loop-k.invariant.0 c.loop-k.invariant.1 stopped (omega (arith, c.if-k-statuses.true)))
+    settled_at l k c.loop-k.invariant.0 c.loop-k.invariant.1 stopped (omega (arith, c.if-k-statuses.true))
 
 pub returns : goal.returns
 returns c =
@@ -43,4 +42,4 @@ returns c =
       | else-loop-k-test w ↦ inl (omega (arith, w.loop-k-test.false))
       | then-loop-k-test+then-statuses-k-ne2 w ↦ inr w.if-statuses-k-ne2.true
     ] in
-    ap answered (settled-nowhere l k c.loop-k.invariant.0 c.loop-k.invariant.1 stopped (omega (arith, c.if-k-statuses.false)))
+    settled-nowhere l k c.loop-k.invariant.0 c.loop-k.invariant.1 stopped (omega (arith, c.if-k-statuses.false))

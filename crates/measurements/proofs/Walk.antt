@@ -2,7 +2,7 @@
 use Prim.Native.Nat.{ℕ, zero, suc, min, ◌+◌, ◌≤◌, ◌<◌}
 use mathlib.Core.Path.{◌≡◌, refl, sym, ap, ◌∙◌}
 use mathlib.Core.Bool.{Bool, true, false, ◌||◌, cond, or-true, or-false, or_assoc}
-use native.Mathlib.Nat.{le_trans, min-le_left, min-le_right, le-max_left}
+use native.Mathlib.Nat.{le_trans, min-le_left, le-max_left}
 use native.Mathlib.Numerals.{add-one}
 use lib.Dec.{leb, eqb}
 use lib.ListN.{length}

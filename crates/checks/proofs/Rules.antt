@@ -3,7 +3,7 @@ use Prim.Native.Nat.{ℕ, ◌+◌, ◌<◌}
 use mathlib.Core.Path.{◌≡◌, sym, ap, ap₂, subst, ◌∙◌}
 use mathlib.Core.Bool.{Bool, true, false, ◌&&◌, ◌||◌, not, or-true, or-false, or_assoc, or_comm}
 use mathlib.Core.Logic.{⊎_elim, ◌≢◌}
-use mathlib.Core.List.{List, [], ◌∷◌}
+use mathlib.Core.List.{List, ◌∷◌}
 use native.Mathlib.Omega.{arith}
 use native.Mathlib.Numerals.{add-one}
 use lib.Dec.{eqb, ltb}
@@ -49,9 +49,6 @@ marked_more l m a cs k h =
           ∙ or_assoc (get_or l c false) (any (eqb c) cs) (eqb c a)
           ∙ ap (λ (t : Bool). get_or l c false || t) (or_comm (any (eqb c) cs) (eqb c a));
     }
-
-pub marked-none : (l : List Bool) → length l ≡ max_nodes → Marked l [] l
-marked-none l long = record { long = long; marks = λ c b. sym (or-false (get_or l c false)) }
 
 pub marks-start : (w : List ℕ) → Holds false (is_child w 0) max_nodes (replicate max_nodes false)
 unfolding some

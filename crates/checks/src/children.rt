@@ -18,9 +18,7 @@ pub fn mark(marked: &mut [bool; MAX_NODES as usize], children: Children)
     ensures { Marked marked.old (child_list children) marked.new }
 {
     let nodes = children.nodes;
-    let mut k = children.count as usize;
-    while 0 < k {
-        k -= 1;
+    for k in (0..children.count as usize).rev() {
         let c = nodes[k] as usize;
         marked[c] = true;
     }
@@ -32,11 +30,9 @@ pub fn are_disjoint(children: Children, masks: &[u64; MAX_NODES as usize]) -> bo
     ensures { result ≡ all_disjoint (λ c. get_or masks.now c 0) (child_list children) }
 {
     let nodes = children.nodes;
-    let mut k = children.count as usize;
     let mut all = 0u64;
     let mut apart = true;
-    while 0 < k {
-        k -= 1;
+    for k in (0..children.count as usize).rev() {
         let c = nodes[k] as usize;
         apart = masks::is_disjoint(masks[c], all) & apart;
         all = masks[c] | all;
@@ -50,13 +46,9 @@ pub fn is_false(words: &[u32], i: usize) -> bool
     ensures { result ≡ is_false (node_at words.now i) }
 {
     let node = decode_at(words, i);
-    let g = node.gate;
-    match g {
+    match node.gate {
         Gate::Constant(b) => !b,
-        Gate::Literal(_, _) => false,
-        Gate::Decision(_, _, _) => false,
-        Gate::Conjunction => false,
-        Gate::Unknown => false,
+        _ => false,
     }
 }
 
@@ -66,10 +58,8 @@ pub fn has_false(words: &[u32], n: usize, children: Children) -> bool
     ensures { result ≡ any (λ c. is_false (node_at words.now c)) (child_list children) }
 {
     let nodes = children.nodes;
-    let mut k = children.count as usize;
     let mut some = false;
-    while 0 < k {
-        k -= 1;
+    for k in (0..children.count as usize).rev() {
         let c = nodes[k] as usize;
         some = is_false(words, c) | some;
     }

@@ -1,6 +1,6 @@
 // The rules 23 to 25 of the check: for each, the lowest node that breaks it.
 ghost use Rattle.std.specs.Prelude.{◌≡◌, false, ◌<◌};
-ghost use Rattle.masks.specs.Numbers.{least};
+ghost use Rattle.masks.specs.Numbers.{first};
 ghost use Rattle.table.specs.Node.{max_nodes};
 ghost use Rattle.table.specs.Words.{Readable};
 ghost use Rattle.circuits.specs.Check.{parentless, undecomposable, unreduced, is_child};
@@ -17,30 +17,25 @@ fn marked_children(words: &[u32], n: usize) -> [bool; MAX_NODES as usize]
     ensures { Holds false (is_child words.now n) max_nodes result }
 {
     let mut marked = [false; MAX_NODES as usize];
-    let mut j = 0;
-    while j < n {
+    for j in 0..n {
         let node = decode_at(words, j);
-        let children = node.children;
-        mark(&mut marked, children);
-        j += 1;
+        mark(&mut marked, node.children);
     }
     marked
 }
 
-// 23: the lowest node, not the last, that is nobody's child; n where there is none.
-pub fn first_parentless(words: &[u32], n: usize) -> usize
+// 23: the lowest node, not the last, that is nobody's child.
+pub fn first_parentless(words: &[u32], n: usize) -> Option<usize>
     requires { Readable n words.now }
-    ensures { result ≡ least n (parentless words.now n) }
+    ensures { result ≡ first n (parentless words.now n) }
 {
     let marked = marked_children(words, n);
-    let mut i = 0;
-    while i < n {
+    for i in 0..n {
         if (i + 1 < n) & !marked[i] {
-            return i;
+            return Some(i);
         }
-        i += 1;
     }
-    i
+    None
 }
 
 // A variable meets itself at node i: it is under two children, or it is the decision's own and under a child.
@@ -54,35 +49,29 @@ fn is_undecomposable(
     ensures { result ≡ undecomposable words.now i }
 {
     let node = decode_at(words, i);
-    let g = node.gate;
-    match g {
+    match node.gate {
         Gate::Constant(_) => false,
         Gate::Literal(_, _) => false,
         Gate::Decision(x, a, b) => {
             masks::has_bit(supports[a as usize], x) | masks::has_bit(supports[b as usize], x)
         }
-        Gate::Conjunction => {
-            let children = node.children;
-            !are_disjoint(children, supports)
-        }
+        Gate::Conjunction => !are_disjoint(node.children, supports),
         Gate::Unknown => false,
     }
 }
 
-// 24: the lowest node at which a variable meets itself; n where there is none.
-pub fn first_undecomposable(words: &[u32], n: usize) -> usize
+// 24: the lowest node at which a variable meets itself.
+pub fn first_undecomposable(words: &[u32], n: usize) -> Option<usize>
     requires { Readable n words.now }
-    ensures { result ≡ least n (undecomposable words.now) }
+    ensures { result ≡ first n (undecomposable words.now) }
 {
     let supports = passes::supports(words, n);
-    let mut i = 0;
-    while i < n {
+    for i in 0..n {
         if is_undecomposable(words, n, i, &supports) {
-            return i;
+            return Some(i);
         }
-        i += 1;
     }
-    i
+    None
 }
 
 // Node i is a conjunction with a `false` child, or a decision with two.
@@ -91,30 +80,24 @@ fn is_unreduced(words: &[u32], n: usize, i: usize) -> bool
     ensures { result ≡ unreduced words.now i }
 {
     let node = decode_at(words, i);
-    let g = node.gate;
-    match g {
+    match node.gate {
         Gate::Constant(_) => false,
         Gate::Literal(_, _) => false,
         Gate::Decision(_, a, b) => is_false(words, a as usize) & is_false(words, b as usize),
-        Gate::Conjunction => {
-            let children = node.children;
-            has_false(words, n, children)
-        }
+        Gate::Conjunction => has_false(words, n, node.children),
         Gate::Unknown => false,
     }
 }
 
-// 25: the lowest node that is not reduced; n where there is none.
-pub fn first_unreduced(words: &[u32], n: usize) -> usize
+// 25: the lowest node that is not reduced.
+pub fn first_unreduced(words: &[u32], n: usize) -> Option<usize>
     requires { Readable n words.now }
-    ensures { result ≡ least n (unreduced words.now) }
+    ensures { result ≡ first n (unreduced words.now) }
 {
-    let mut i = 0;
-    while i < n {
+    for i in 0..n {
         if is_unreduced(words, n, i) {
-            return i;
+            return Some(i);
         }
-        i += 1;
     }
-    i
+    None
 }

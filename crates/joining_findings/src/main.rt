@@ -2,7 +2,7 @@
 #![tactic(auto)]
 
 use console::print;
-use states::{State, StateJoin, TermJoin};
+use states::State;
 use std::io::Stdout;
 use terms::Term;
 
@@ -23,8 +23,8 @@ fn print_case(stdout: Stdout, a: State, b: State) {
     print_state(stdout, b);
     print(stdout, b" ", 1);
     match states::join_states(a, b) {
-        StateJoin::Is(s) => print_state(stdout, s),
-        StateJoin::Conflict => print(stdout, b"clash", 5),
+        Some(s) => print_state(stdout, s),
+        None => print(stdout, b"clash", 5),
     }
     print(stdout, b")\n", 2);
 }
@@ -51,8 +51,8 @@ fn print_join(stdout: Stdout, t: Term, u: Term) {
     print_term(stdout, t);
     print_term(stdout, u);
     match states::join_by_cases(t, u) {
-        TermJoin::Is(v) => print_term(stdout, v),
-        TermJoin::Conflict => print_conflict(stdout),
+        Some(v) => print_term(stdout, v),
+        None => print_conflict(stdout),
     }
     if terms::conflict(t, u) {
         print_conflict(stdout);

@@ -1,5 +1,4 @@
 pub mod Signed
-pub mod Entry
 pub mod Walk
 pub mod Right
 pub mod Literals

@@ -1,7 +1,7 @@
 -- The literals of the term that right measurements give: those of the term at the start, and what each measurement says.
 use Prim.Native.Nat.{ℕ, zero, suc, ◌≤◌, ◌<◌}
 use mathlib.Core.Path.{◌≡◌, refl, sym, ap, subst, ◌∙◌}
-use mathlib.Core.Bool.{Bool, true, false, not}
+use mathlib.Core.Bool.{Bool, true, false, not, cond}
 use mathlib.Core.Logic.{◌⊎◌, inl, inr, ⊎_elim, ◌≢◌}
 use native.Mathlib.Nat.{not-suc-le-zero, le_refl}
 use native.Mathlib.Omega.{arith}
@@ -12,12 +12,15 @@ use Rattle.masks.specs.Mask.{bit}
 use Rattle.masks.specs.Numbers.{some}
 use Rattle.masks.proofs.Operators.{bit-or}
 use Rattle.masks.proofs.Tests.{not-or, is_true, along, same?, below_suc}
-use Rattle.terms.specs.Term.{has, variables, IsTerm}
+use Rattle.terms.specs.Term.{has, variables, extend, IsTerm}
 use Rattle.terms.specs.declared.Term.{Term}
 use Rattle.terms.proofs.Terms.{Unmentioned, extend-here, extend-there, extend-only, mentions-i, extend-IsTerm}
 use Rattle.measurements.specs.Measurement.{variable_at, low_at, high_at, threshold_at, says, measured_term, Measurements}
-use Rattle.measurements.proofs.Entry.{chosen}
 use Rattle.measurements.proofs.Right.{Right}
+
+-- the term with the literal of x that a measurement gives, by what it says of true and of false
+abbrev chosen : Term → ℕ → Bool → Bool → Term
+chosen t x p q = cond p (extend t x true) (cond q (extend t x false) t)
 
 -- ---- one measurement: S b where it says that y is b
 module _ (u : Term) (y : ℕ) where

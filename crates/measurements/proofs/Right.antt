@@ -3,13 +3,16 @@ use Prim.Native.Nat.{ℕ, zero, suc, ◌≤◌, ◌<◌}
 use mathlib.Core.Path.{◌≡◌, refl, sym, ap, subst, ◌∙◌}
 use mathlib.Core.Bool.{Bool, true, false, ◌||◌, not, cond}
 use mathlib.Core.Logic.{⊎_elim}
-use native.Mathlib.Nat.{le_refl}
+use native.Mathlib.Nat.{le_refl, le_trans, le_antisymm, lt_irrefl, le-max_left}
 use native.Mathlib.Omega.{arith}
 use lib.Dec.{T, T_not, leb, ltb, eqb, nleb→lt}
+use lib.ListN.{length}
 use lib.Signed.{lt_z}
 use borrow.Author.Tests.{ltb-false, lt-ltb, le-ltb}
+use Rattle.std.specs.Prelude.{Some, None}
 use Rattle.masks.specs.Mask.{width, bit, put}
-use Rattle.masks.specs.Numbers.{some, count}
+use Rattle.masks.specs.Numbers.{some, count, least}
+use Rattle.masks.proofs.Least.{first-some, first-nowhere}
 use Rattle.masks.proofs.Masks.{put_same, put_keeps}
 use Rattle.masks.proofs.Numbers.{count_less, count-not, least-none, least-lowest}
 use Rattle.masks.proofs.Tests.{not-or, along}
@@ -21,7 +24,7 @@ use Rattle.terms.specs.declared.Term.{Term}
 use Rattle.measurements.specs.Measurement.{complete, entries, variable_at, low_at, high_at, wrong, measured_term, Measurements}
 use Rattle.measurements.specs.Measurement.{check_measurements, with_measurements}
 use Rattle.measurements.specs.Walk.{first_wrong, seen, Usable}
-use Rattle.measurements.proofs.Walk.{seen-bit}
+use Rattle.measurements.proofs.Walk.{in-variables, seen-bit}
 
 -- what it says of a measurement that it is not wrong
 pub record Right (N v : ℕ) (m : Measurements) (i : ℕ) : Type 0 where
@@ -49,8 +52,20 @@ module _ (N v : ℕ) (m : Measurements) where
       record { whole = nleb→lt (complete m) i a; ordered = b; below = nleb→lt N x c; unknown = d; once = e }
 
   -- none is wrong
-  pub all_right : entries m ≤ first_wrong N v m → (i : ℕ) → i < entries m → Right N v m i
-  all_right h i l = right-e i (least-none (entries m) (wrong N v m) h i l)
+  none_below : entries m ≤ least (entries m) (wrong N v m) → (i : ℕ) → i < entries m → Right N v m i
+  none_below h i l = right-e i (least-none (entries m) (wrong N v m) h i l)
+
+  all_right : first_wrong N v m ≡ None → (i : ℕ) → i < entries m → Right N v m i
+  all_right h = none_below (first-nowhere (wrong N v m) (entries m) h)
+
+  -- then each list is as long as the longest
+  pub whole-lists : first_wrong N v m ≡ None → length m.variables ≡ entries m
+  whole-lists h =
+      le_antisymm (le-max_left (length m.variables) _)
+      (⊎_elim
+      (λ (l : complete m < entries m). absurd (lt_irrefl (complete m) (all_right h (complete m) l).whole))
+      (λ (l : entries m ≤ complete m). le_trans l (in-variables m))
+      (lt-or-le (complete m) (entries m)))
 
   -- right ones measure different variables below N, so that there are no more than N
   seen-grows : (k : ℕ) → ((i : ℕ) → i < k → Right N v m i) → k ≤ count N (bit (seen v m k))
@@ -72,33 +87,36 @@ module _ (N v : ℕ) (m : Measurements) where
       let grown : k ≤ count N (bit (seen v m k)) = seen-grows k right in
       omega (arith, count-not N (bit (seen v m k)))
 
-  pub usable : N ≤ width → entries m ≤ first_wrong N v m → Usable (entries m) m
+  pub usable : N ≤ width → first_wrong N v m ≡ None → Usable (length m.variables) m
   usable wide h i l =
-      let r : Right N v m i = all_right h i l in
+      let r : Right N v m i = all_right h i (subst (λ (n : ℕ). i < n) (whole-lists h) l) in
       let b : variable_at m i < N = r.below in
       (r.whole, omega arith)
 
 -- ---- the answer
 module _ (N : ℕ) (t : Term) (m : Measurements) where
-  abbrev first : ℕ
-  first = first_wrong N (variables t) m
+  abbrev lowest : ℕ
+  lowest = least (entries m) (wrong N (variables t) m)
 
   -- what stands after the test of all measurements
   abbrev known : Outcome Term
   known = answered (measured_term t m (entries m))
 
-  by_first : (b : Bool) → ltb first (entries m) ≡ b → cond b (refused 53 first) known ≡ with_measurements N t m
+  by_lowest : (b : Bool) → ltb lowest (entries m) ≡ b → cond b (refused 53 lowest) known ≡ with_measurements N t m
   unfolding with_measurements check_measurements
-  by_first true e = sym (ap (λ (b : Bool). after (cond b (refused 53 first) accepted) known) e)
-  by_first false e = sym (ap (λ (b : Bool). after (cond b (refused 53 first) accepted) known) e)
+  by_lowest true e = sym (ap (λ (b : Bool). after (cond b (refused 53 lowest) accepted) known) e)
+  by_lowest false e = sym (ap (λ (b : Bool). after (cond b (refused 53 lowest) accepted) known) e)
 
-  pub some-wrong : {i : ℕ} → i ≡ first_wrong N (variables t) m → i < entries m → refused 53 i ≡ with_measurements N t m
-  some-wrong {i} e l =
-      ap (refused 53) e ∙ by_first true (lt-ltb first (entries m) (subst (λ (z : ℕ). z < entries m) e l))
+  pub some-wrong : {i : ℕ} → first_wrong N (variables t) m ≡ Some i → refused 53 i ≡ with_measurements N t m
+  some-wrong {i} e =
+      let (d, l) = first-some (wrong N (variables t) m) (entries m) e in
+      ap (refused 53) d ∙ by_lowest true (lt-ltb lowest (entries m) (subst (λ (z : ℕ). z < entries m) d l))
 
-  pub none-wrong : {u : Term} → entries m ≤ first_wrong N (variables t) m → u ≡ measured_term t m (entries m)
+  pub none-wrong : {u : Term} → first_wrong N (variables t) m ≡ None → u ≡ measured_term t m (length m.variables)
       → answered u ≡ with_measurements N t m
-  none-wrong l e = ap answered e ∙ by_first false (le-ltb first (entries m) l)
+  none-wrong h e =
+      ap answered (e ∙ ap (measured_term t m) (whole-lists N (variables t) m h))
+      ∙ by_lowest false (le-ltb lowest (entries m) (first-nowhere (wrong N (variables t) m) (entries m) h))
 
   -- what the answer says of the test
   pub known-passed : (u : Term) → with_measurements N t m ≡ answered u
@@ -114,17 +132,17 @@ module _ (N : ℕ) (t : Term) (m : Measurements) where
   -- where the measurements pass, none is wrong
   pub passed-right : check_measurements N t m ≡ accepted → (i : ℕ) → i < entries m → Right N (variables t) m i
   unfolding check_measurements
-  passed-right e = all_right N (variables t) m (none (ltb first (entries m)) refl e)
+  passed-right e = none_below N (variables t) m (none (ltb lowest (entries m)) refl e)
     where
-      none : (b : Bool) → ltb first (entries m) ≡ b → cond b (refused 53 first) accepted ≡ accepted → entries m ≤ first
+      none : (b : Bool) → ltb lowest (entries m) ≡ b → cond b (refused 53 lowest) accepted ≡ accepted → entries m ≤ lowest
       none true d h = let z : ◌≡◌ {A = ℕ} 0 1 = cc in absurd (omega arith)
-      none false d h = ltb-false first (entries m) d
+      none false d h = ltb-false lowest (entries m) d
 
   pub right-passed : ((i : ℕ) → i < entries m → T (not (wrong N (variables t) m i))) → check_measurements N t m ≡ accepted
   unfolding check_measurements
   right-passed h =
       ⊎_elim
-      (λ (l : first < entries m).
-      absurd (T_not (wrong N (variables t) m first) (h first l) (least-lowest (entries m) (wrong N (variables t) m) l).0))
-      (λ (l : entries m ≤ first). ap (λ (b : Bool). cond b (refused 53 first) accepted) (le-ltb first (entries m) l))
-      (lt-or-le first (entries m))
+      (λ (l : lowest < entries m).
+      absurd (T_not (wrong N (variables t) m lowest) (h lowest l) (least-lowest (entries m) (wrong N (variables t) m) l).0))
+      (λ (l : entries m ≤ lowest). ap (λ (b : Bool). cond b (refused 53 lowest) accepted) (le-ltb lowest (entries m) l))
+      (lt-or-le lowest (entries m))

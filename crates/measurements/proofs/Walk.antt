@@ -2,42 +2,29 @@
 use Prim.Native.Nat.{ℕ, zero, suc, min, ◌+◌, ◌≤◌, ◌<◌}
 use mathlib.Core.Path.{◌≡◌, refl, sym, ap, ◌∙◌}
 use mathlib.Core.Bool.{Bool, true, false, ◌||◌, cond, or-true, or-false, or_assoc}
-use mathlib.Core.Logic.{⊎_elim}
-use native.Mathlib.Nat.{le_trans, min-le_left, min-le_right, le-max_left}
+use native.Mathlib.Nat.{le_trans, min-le_left, le-max_left}
 use native.Mathlib.Numerals.{add-one}
 use lib.Dec.{leb, eqb}
 use lib.ListN.{length}
 use lib.Signed.{lt_z}
 use borrow.Author.Tests.{le-leb, lt-leb}
+use mir.Syntax.{w32}
+use mir.Val.{to_z, of_z, SFits}
+use Rattle.std.specs.Prelude.{Some, None}
 use Rattle.masks.specs.Mask.{bit, put}
 use Rattle.masks.specs.Numbers.{some, least}
-use Rattle.masks.proofs.Least.{search-found, search-done}
+use Rattle.masks.proofs.Least.{first-found, first-none}
 use Rattle.masks.proofs.Masks.{bit-put}
-use Rattle.table.proofs.NodePlaces.{lt-or-le}
 use Rattle.terms.specs.declared.Term.{Term}
 use Rattle.measurements.specs.Measurement.{complete, entries, variable_at, low_at, high_at, threshold_at, wrong, Measurements}
 use Rattle.measurements.specs.Measurement.{with_measured, measured_term}
 use Rattle.measurements.specs.Walk.{first_wrong, seen}
+use Rattle.measurements.proofs.Signed.{less-plain}
 
 module _ (m : Measurements) where
   -- ---- a complete measurement has an entry in each list
   pub in-variables : complete m ≤ length m.variables
   in-variables = min-le_left (length m.variables) (min (length m.lows) (min (length m.highs) (length m.thresholds)))
-
-  in_rest : complete m ≤ min (length m.lows) (min (length m.highs) (length m.thresholds))
-  in_rest = min-le_right (length m.variables) (min (length m.lows) (min (length m.highs) (length m.thresholds)))
-
-  pub in-lows : complete m ≤ length m.lows
-  in-lows = le_trans in_rest (min-le_left (length m.lows) (min (length m.highs) (length m.thresholds)))
-
-  in-last : complete m ≤ min (length m.highs) (length m.thresholds)
-  in-last = le_trans in_rest (min-le_right (length m.lows) (min (length m.highs) (length m.thresholds)))
-
-  pub in-highs : complete m ≤ length m.highs
-  in-highs = le_trans in-last (min-le_left (length m.highs) (length m.thresholds))
-
-  pub in-thresholds : complete m ≤ length m.thresholds
-  in-thresholds = le_trans in-last (min-le_right (length m.highs) (length m.thresholds))
 
   pub complete-le : complete m ≤ entries m
   complete-le = le_trans in-variables (le-max_left (length m.variables) _)
@@ -78,11 +65,14 @@ module _ (m : Measurements) where
 
   -- ---- wrong measurements
   module _ (N v : ℕ) where
-    pub wrong-test : (i : ℕ) {s : ℕ} {b : Bool} → i < complete m → s ≡ seen v m i
-        → b ≡ (lt_z (high_at m i) (low_at m i) || leb N (variable_at m i) || bit s (variable_at m i)) → b ≡ wrong N v m i
+    -- the test of one, as the code reads its bounds
+    pub wrong-test : (i : ℕ) {s : ℕ} {b : Bool} → i < complete m → SFits w32 (high_at m i) → SFits w32 (low_at m i) → s ≡ seen v m i
+        → b ≡ (lt_z (to_z w32 (of_z w32 (high_at m i))) (to_z w32 (of_z w32 (low_at m i))) || leb N (variable_at m i) || bit s (variable_at m i))
+        → b ≡ wrong N v m i
     unfolding wrong
-    wrong-test i l e h =
-        h
+    wrong-test i {s} l h k e d =
+        d
+        ∙ ap (λ (z : Bool). z || leb N x || bit s x) (sym (less-plain h k))
         ∙ ap (λ (z : Bool). outside || z) (ap (λ (z : ℕ). bit z x) e ∙ seen-bit v i x)
         ∙ sym (or_assoc outside (bit v x) again)
         ∙ sym (ap (λ (z : Bool). z || lt_z (high_at m i) (low_at m i) || leb N x || bit v x || again) (lt-leb (complete m) i l))
@@ -104,10 +94,9 @@ module _ (m : Measurements) where
         || some i (λ j. eqb (variable_at m i) (variable_at m j)))
         (le-leb (complete m) i l)
 
-    -- no complete one is wrong
-    pub first-end : (i : ℕ) → i ≤ complete m → complete m ≤ i → least i (wrong N v m) ≡ i → i ≡ first_wrong N v m
-    first-end i l k e =
-        ⊎_elim
-        (λ (h : i < entries m). search-found (wrong N v m) (entries m) i h e refl (incomplete-wrong i k))
-        (λ (h : entries m ≤ i). search-done (wrong N v m) (entries m) i (le_trans l complete-le) h e)
-        (lt-or-le i (entries m))
+    -- no complete one is wrong: the lowest wrong one is the first that is incomplete, if there is one
+    pub first-incomplete : (i : ℕ) → complete m ≤ i → i < entries m → least i (wrong N v m) ≡ i → Some i ≡ first_wrong N v m
+    first-incomplete i k l e = first-found (wrong N v m) (entries m) i l e refl (incomplete-wrong i k)
+
+    pub first-end : (i : ℕ) → i ≤ complete m → entries m ≤ i → least i (wrong N v m) ≡ i → None ≡ first_wrong N v m
+    first-end i l k e = first-none (wrong N v m) (entries m) i (le_trans l complete-le) k e

@@ -1,21 +1,15 @@
 // Measurements: what a quantity known within limits says of a variable, and the term with what a list of them says.
 #![tactic(auto)]
 
-ghost use Rattle.std.specs.Prelude.{◌≡◌, ◌||◌, min, max, ◌<◌, leb};
+ghost use Rattle.std.specs.Prelude.{◌≡◌, ◌||◌, ◌<◌, leb, length};
 ghost use Rattle.std.specs.Int.Signed.{lt_z};
 ghost use Rattle.masks.specs.Mask.{bit};
+ghost use Rattle.terms.specs.Term.{variables as variables_of};
 ghost use Rattle.measurements.specs.Answers.{measured_outcome};
 ghost use Rattle.measurements.specs.Measurement.{measurements, with_measured, measured_term, with_measurements};
 ghost use Rattle.measurements.specs.Walk.{first_wrong, Usable};
 
 use terms::Term;
-
-// The term with the measurements' literals, or the lowest wrong one; specs/Answers.antt has the scope's number.
-#[derive(Clone, Copy)]
-pub enum Measured {
-    Known(Term),
-    Wrong(usize),
-}
 
 // The term with the literal that a measurement of x gives, if it gives one.
 fn with_measured(t: Term, x: u32, low: i32, high: i32, threshold: i32) -> Term
@@ -36,97 +30,51 @@ fn is_wrong(variables: u32, seen: u64, x: u32, low: i32, high: i32) -> bool
     requires { variables < 64 }
     ensures { result ≡ (lt_z high low || leb variables x || bit seen x) }
 {
-    if high < low {
-        return true;
-    }
-    if variables <= x {
-        return true;
-    }
-    masks::has_bit(seen, x)
+    high < low || variables <= x || masks::has_bit(seen, x)
 }
 
-// The lesser and the greater of two lengths, the least and the greatest of four.
-fn lesser(a: usize, b: usize) -> usize
-    ensures { result ≡ min a b }
-{
-    if a < b {
-        return a;
-    }
-    b
-}
-
-fn greater(a: usize, b: usize) -> usize
-    ensures { result ≡ max a b }
-{
-    if a < b {
-        return b;
-    }
-    a
-}
-
-fn shortest(a: usize, b: usize, c: usize, d: usize) -> usize
-    ensures { result ≡ min a (min b (min c d)) }
-{
-    lesser(a, lesser(b, lesser(c, d)))
-}
-
-fn longest(a: usize, b: usize, c: usize, d: usize) -> usize
-    ensures { result ≡ max a (max b (max c d)) }
-{
-    greater(a, greater(b, greater(c, d)))
-}
-
-// The lowest wrong measurement; the number of entries where there is none. The variables of the mask are known without one.
+// The lowest wrong measurement. The term's variables are known without one.
 fn first_wrong(
     variables: u32,
-    known: u64,
-    measured: &[u32],
-    lows: &[i32],
-    highs: &[i32],
-    thresholds: &[i32],
-) -> usize
-    requires { variables < 64 }
-    ensures { result ≡ first_wrong variables known
-        (measurements measured.now lows.now highs.now thresholds.now) }
-{
-    let complete = shortest(measured.len(), lows.len(), highs.len(), thresholds.len());
-    let mut seen = known;
-    let mut i = 0;
-    while i < complete {
-        let x = measured[i];
-        let low = lows[i];
-        let high = highs[i];
-        if is_wrong(variables, seen, x, low, high) {
-            return i;
-        }
-        seen = masks::with_bit(seen, x);
-        i += 1;
-    }
-    i
-}
-
-// The term with the literals of the first n measurements.
-fn with_all(
     t: Term,
     measured: &[u32],
     lows: &[i32],
     highs: &[i32],
     thresholds: &[i32],
-    n: usize,
-) -> Term
-    requires { Usable n (measurements measured.now lows.now highs.now thresholds.now) }
+) -> Option<usize>
+    requires { variables < 64 }
+    ensures { result ≡ first_wrong variables (variables_of t)
+        (measurements measured.now lows.now highs.now thresholds.now) }
+{
+    let complete = measured
+        .len()
+        .min(lows.len().min(highs.len().min(thresholds.len())));
+    let entries = measured
+        .len()
+        .max(lows.len().max(highs.len().max(thresholds.len())));
+    let mut seen = terms::variables(t);
+    for i in 0..complete {
+        let x = measured[i];
+        if is_wrong(variables, seen, x, lows[i], highs[i]) {
+            return Some(i);
+        }
+        seen = masks::with_bit(seen, x);
+    }
+    if complete < entries {
+        return Some(complete);
+    }
+    None
+}
+
+// The term with the literals of all measurements.
+fn with_all(t: Term, measured: &[u32], lows: &[i32], highs: &[i32], thresholds: &[i32]) -> Term
+    requires { Usable (length measured.now) (measurements measured.now lows.now highs.now thresholds.now) }
     ensures { result ≡ measured_term t
-        (measurements measured.now lows.now highs.now thresholds.now) n }
+        (measurements measured.now lows.now highs.now thresholds.now) (length measured.now) }
 {
     let mut u = t;
-    let mut i = 0;
-    while i < n {
-        let x = measured[i];
-        let low = lows[i];
-        let high = highs[i];
-        let threshold = thresholds[i];
-        u = with_measured(u, x, low, high, threshold);
-        i += 1;
+    for i in 0..measured.len() {
+        u = with_measured(u, measured[i], lows[i], highs[i], thresholds[i]);
     }
     u
 }
@@ -140,16 +88,13 @@ pub fn measure(
     lows: &[i32],
     highs: &[i32],
     thresholds: &[i32],
-) -> Measured
+) -> Result<Term, usize>
     requires { variables < 64 }
     ensures { measured_outcome result ≡ with_measurements variables t
         (measurements measured.now lows.now highs.now thresholds.now) }
 {
-    let n = longest(measured.len(), lows.len(), highs.len(), thresholds.len());
-    let known = terms::variables(t);
-    let i = first_wrong(variables, known, measured, lows, highs, thresholds);
-    if i < n {
-        return Measured::Wrong(i);
+    match first_wrong(variables, t, measured, lows, highs, thresholds) {
+        Some(i) => Err(i),
+        None => Ok(with_all(t, measured, lows, highs, thresholds)),
     }
-    Measured::Known(with_all(t, measured, lows, highs, thresholds, n))
 }

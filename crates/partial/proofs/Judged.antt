@@ -1,11 +1,9 @@
 -- The judgement by the models under the term and the number of completions.
 use Prim.Native.Nat.{ℕ, ◌+◌, ◌-◌, ◌^◌}
-use mathlib.Core.Path.{◌≡◌, refl, sym, ap, ap₂, ◌∙◌}
-use mathlib.Core.Bool.{Bool, true, false, not}
-use mathlib.Core.Logic.{◌≢◌}
+use mathlib.Core.Path.{◌≡◌, sym, ap, ap₂, ◌∙◌}
+use mathlib.Core.Bool.{Bool, not}
 use native.Mathlib.Omega.{arith}
 use lib.Dec.{T, eqb}
-use borrow.Author.Tests.{eq-eqb, ne_eqb}
 use Rattle.masks.proofs.Numbers.{count-not}
 use Rattle.table.specs.Outcome.{accepted}
 use Rattle.terms.specs.Completions.{models_under, unknowns, status_by, status}
@@ -18,20 +16,6 @@ use Rattle.circuits.proofs.Accepted.{accepted-e, variables-wide}
 use Rattle.passes.proofs.ModelPass.{literals-are}
 use Rattle.partial.specs.Partial.{judgement}
 use mathlib.Core.List.{List}
-
--- ---- the status by the numbers a and b of completions that make the function true and false
-module _ (a b : ℕ) where
-  by : (p q : Bool) → eqb b 0 ≡ p → eqb a 0 ≡ q → status_by p q ≡ status_by (eqb b 0) (eqb a 0)
-  by p q e d = sym (ap₂ status_by e d)
-
-  pub none-false : b ≡ 0 → 2 ≡ status_by (eqb b 0) (eqb a 0)
-  none-false e = by true (eqb a 0) (eq-eqb b 0 e) refl
-
-  pub none_true : b ≢ 0 → a ≡ 0 → 0 ≡ status_by (eqb b 0) (eqb a 0)
-  none_true n e = by false true (ne_eqb b 0 n) (eq-eqb a 0 e)
-
-  pub some-each : b ≢ 0 → a ≢ 0 → 1 ≡ status_by (eqb b 0) (eqb a 0)
-  some-each n k = by false false (ne_eqb b 0 n) (ne_eqb a 0 k)
 
 -- ---- an accepted circuit and a term over its variables
 module _ (N n : ℕ) (w : List ℕ) (e : check N n w ≡ accepted) (t : Term) (h : T (is_term N t)) where

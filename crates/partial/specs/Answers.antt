@@ -1,8 +1,8 @@
 -- The answers of the operation, in the scope's numbers.
-use Rattle.std.specs.Prelude.{ℕ}
+use Rattle.std.specs.Prelude.{ℕ, Result, Ok, Err}
 use Rattle.table.specs.Outcome.{Outcome, answered, refused, refused_by}
 use Rattle.partial.specs.declared.Judgement.{Judgement}
-use Rattle.partial.specs.declared.PartialEvaluation.{PartialEvaluation}
+use Rattle.partial.specs.declared.PartialRefusal.{PartialRefusal}
 use Rattle.partial.specs.declared.Status.{Status}
 
 -- "forbidden", "open", "allowed"
@@ -16,7 +16,7 @@ abbrev pub judged : Judgement → ℕ × (ℕ × ℕ)
 judged j = (status_number j.status, (j.models, j.countermodels))
 
 -- 53 comes with the measurement
-abbrev pub partial_outcome : PartialEvaluation → Outcome (ℕ × (ℕ × ℕ))
-partial_outcome (PartialEvaluation.Judged j) = answered (judged j)
-partial_outcome (PartialEvaluation.Measurement i) = refused 53 i
-partial_outcome (PartialEvaluation.Refused r) = refused_by r
+abbrev pub partial_outcome : Result Judgement PartialRefusal → Outcome (ℕ × (ℕ × ℕ))
+partial_outcome (Ok j) = answered (judged j)
+partial_outcome (Err (PartialRefusal.Measurement i)) = refused 53 i
+partial_outcome (Err (PartialRefusal.Table r)) = refused_by r

@@ -9,32 +9,28 @@ ghost use Rattle.measurements.specs.Measurement.{measurements};
 ghost use Rattle.circuits.specs.Check.{check};
 ghost use Rattle.queries.specs.Queries.{circuit};
 ghost use Rattle.partial.specs.Answers.{status_number, judged, partial_outcome};
+ghost use Rattle.partial.specs.declared.PartialRefusal.{PartialRefusal};
 ghost use Rattle.partial.specs.Partial.{judgement, partial_evaluation};
 
-use measurements::Measured;
-use table::{Checked, Refusal};
+use table::Refusal;
 use terms::Term;
 
-// What the completions say together, the scope's verdict on a half-known stow; specs/Answers.antt has its numbers.
+// What the completions say together, the scope's verdict on a half-known stow, with its number.
 #[derive(Clone, Copy)]
 pub enum Status {
     // no completion satisfies the circuit: forbidden
-    Falsified,
+    Falsified = 0,
     // some do, and some do not: open
-    Undetermined,
+    Undetermined = 1,
     // every one does: allowed
-    Satisfied,
+    Satisfied = 2,
 }
 
 // The scope's number of a status.
 pub fn status_number(s: Status) -> u32
     ensures { result ≡ status_number s }
 {
-    match s {
-        Status::Falsified => 0,
-        Status::Undetermined => 1,
-        Status::Satisfied => 2,
-    }
+    s as u32
 }
 
 // The status, and how many completions satisfy the circuit and how many do not.
@@ -45,12 +41,19 @@ pub struct Judgement {
     pub countermodels: u64,
 }
 
-// The answer: a measurement may be wrong, by its place in the lists.
+// Why there is no judgement: a measurement is wrong, by its place in the lists, or the table or the term is refused.
 #[derive(Clone, Copy)]
-pub enum PartialEvaluation {
-    Judged(Judgement),
+pub enum PartialRefusal {
     Measurement(usize),
-    Refused(Refusal),
+    Table(Refusal),
+}
+
+impl From<Refusal> for PartialRefusal {
+    ghost from_gives = { λ r e. e ≡ PartialRefusal.Table r };
+
+    fn from(why: Refusal) -> PartialRefusal {
+        PartialRefusal::Table(why)
+    }
 }
 
 // The status by the two numbers.
@@ -99,19 +102,13 @@ pub fn evaluate_partial(
     lows: &[i32],
     highs: &[i32],
     thresholds: &[i32],
-) -> PartialEvaluation
+) -> Result<Judgement, PartialRefusal>
     ensures { partial_outcome result ≡ partial_evaluation variables nodes words.now t
         (measurements measured.now lows.now highs.now thresholds.now) }
 {
-    match checks::check_term(words, variables, nodes, t) {
-        Checked::Refused(why) => PartialEvaluation::Refused(why),
-        Checked::Accepted => {
-            match measurements::measure(variables, t, measured, lows, highs, thresholds) {
-                Measured::Wrong(i) => PartialEvaluation::Measurement(i),
-                Measured::Known(u) => {
-                    PartialEvaluation::Judged(judge(words, variables, nodes as usize, u))
-                }
-            }
-        }
-    }
+    checks::check_term(words, variables, nodes, t)?;
+    let known = measurements::measure(variables, t, measured, lows, highs, thresholds).map_err(
+        PartialRefusal::Measurement,
+    )?;
+    Ok(judge(words, variables, nodes as usize, known))
 }

@@ -136,6 +136,5 @@ filled_next d f i l v k (long, h) e = (length-set l i v ∙ long, rw add-one mor
         (below_suc m)
 
 -- the last of all n
-pub filled-last : {A : Type 0} (d : A) (f : ℕ → A) (n i : ℕ) (l : List A) → 1 ≤ n → n ≤ i → FilledTo d f i l
-    → get_or l (n - 1) d ≡ f (pred n)
-filled-last d f n i l p q (long, h) = h (n - 1) (omega arith) ∙ ap f (sub-one n)
+pub last-held : {A : Type 0} (d : A) (f : ℕ → A) (n : ℕ) (l : List A) → 1 ≤ n → Holds d f n l → get_or l (n - 1) d ≡ f (pred n)
+last-held d f n l p h = h (n - 1) (omega arith) ∙ ap f (sub-one n)

@@ -1,16 +1,15 @@
 -- An accepted circuit: the implicant test, the model count and the literals struck.
-use Prim.Native.Nat.{ℕ, pred, ◌+◌, ◌^◌, ◌<◌, ◌≤◌}
+use Prim.Native.Nat.{ℕ, pred, ◌+◌, ◌^◌, ◌≤◌}
 use mathlib.Core.Path.{◌≡◌, refl, sym, ap, ap₂, subst, ◌∙◌}
 use mathlib.Core.Bool.{Bool, true, false, ◌&&◌, not, cond}
 use mathlib.Core.List.{List}
-use native.Mathlib.Nat.{le_antisymm}
 use native.Mathlib.Numerals.{add-one}
-use lib.Dec.{T, not_T}
+use lib.Dec.{T}
 use Rattle.masks.specs.Mask.{bit}
 use Rattle.masks.specs.Numbers.{implied, every, count}
-use Rattle.masks.proofs.Numbers.{every-e, count-ext}
+use Rattle.masks.proofs.Numbers.{count-ext}
 use Rattle.masks.proofs.Operators.{bit-or}
-use Rattle.masks.proofs.Tests.{is_true, is_false, along}
+use Rattle.masks.proofs.Tests.{is_true}
 use Rattle.table.specs.Outcome.{accepted}
 use Rattle.terms.specs.Completions.{models_under}
 use Rattle.terms.specs.Prime.{implicant, prime, assignment_term, reduce}
@@ -79,12 +78,6 @@ module _ (p : ℕ → Bool) where
   pub every-next : (x : ℕ) → every x p ≡ true → p x ≡ true → every (x + 1) p ≡ true
   unfolding every
   every-next x e h = rw add-one (ap₂ ◌&&◌ h e)
-
-  pub every-fails : (n x : ℕ) → x < n → p x ≡ false → false ≡ every n p
-  every-fails n x l h = sym (is_false (every n p) (not_T (every n p) (λ t. along h (every-e n p t x l))))
-
-  pub every-done : (n x : ℕ) → x ≤ n → n ≤ x → every x p ≡ true → true ≡ every n p
-  every-done n x l k e = sym e ∙ ap (λ (m : ℕ). every m p) (le_antisymm l k)
 
 -- a literal that can be struck, as b, and the test of the definition
 pub kept_test : (a c : Bool) {b v : Bool} → b ≡ (a && c) → b ≡ v → implied a (not c) ≡ not v

@@ -14,10 +14,7 @@ fn can_strike(words: &[u32], variables: u32, n: usize, t: Term, x: u32) -> bool
     requires { (check variables n words.now ≡ accepted) × T (is_term variables t) × (x < variables) }
     ensures { result ≡ (mentions t x && implicant variables (circuit n words.now) (without t x)) }
 {
-    if masks::has_bit(terms::variables(t), x) {
-        return passes::implied(words, n, terms::without(t, x));
-    }
-    false
+    masks::has_bit(terms::variables(t), x) && passes::implied(words, n, terms::without(t, x))
 }
 
 // No literal of the term can be struck.
@@ -26,12 +23,10 @@ fn is_minimal(words: &[u32], variables: u32, n: usize, t: Term) -> bool
     ensures { result ≡ every variables (λ x. implied (mentions t x)
         (not (implicant variables (circuit n words.now) (without t x)))) }
 {
-    let mut x = 0;
-    while x < variables {
+    for x in 0..variables {
         if can_strike(words, variables, n, t, x) {
             return false;
         }
-        x += 1;
     }
     true
 }
@@ -41,10 +36,7 @@ pub fn is_prime_of(words: &[u32], variables: u32, n: usize, t: Term) -> bool
     requires { (check variables n words.now ≡ accepted) × T (is_term variables t) }
     ensures { result ≡ prime variables (circuit n words.now) t }
 {
-    if passes::implied(words, n, t) {
-        return is_minimal(words, variables, n, t);
-    }
-    false
+    passes::implied(words, n, t) && is_minimal(words, variables, n, t)
 }
 
 // The term of all literals of the assignment.
@@ -53,10 +45,8 @@ pub fn term_of(assignment: u64, variables: u32) -> Term
     ensures { result ≡ assignment_term assignment variables }
 {
     let mut t = terms::EMPTY;
-    let mut k = 0;
-    while k < variables {
+    for k in 0..variables {
         t = terms::extend(t, k, masks::has_bit(assignment, k));
-        k += 1;
     }
     t
 }
@@ -79,10 +69,8 @@ pub fn reduced(words: &[u32], variables: u32, n: usize, t: Term) -> Term
     ensures { result ≡ reduce variables (circuit n words.now) t variables }
 {
     let mut u = t;
-    let mut k = 0;
-    while k < variables {
+    for k in 0..variables {
         u = strike(words, variables, n, u, k);
-        k += 1;
     }
     u
 }

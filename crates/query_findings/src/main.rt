@@ -5,8 +5,7 @@ ghost use Rattle.console.specs.Input.{IsPrefixLen};
 
 use console::print;
 use output::refusals::{fault_line, table_refusal_line};
-use partial::{Judgement, PartialEvaluation, Status};
-use queries::{Counted, Evaluation, Reduction, Tested};
+use partial::{Judgement, PartialRefusal, Status};
 use std::io::{Print, Read, Stdin, Stdout};
 use table::layout::NODE_WORDS;
 use table::{MAX_NODES, Refusal};
@@ -54,8 +53,7 @@ fn print_status(stdout: Stdout, s: Status) {
 }
 
 fn print_judgement(stdout: Stdout, j: Judgement) {
-    let s = j.status;
-    print_status(stdout, s);
+    print_status(stdout, j.status);
     print_number(stdout, j.models);
     print(stdout, b" ", 1);
     print_number(stdout, j.countermodels);
@@ -72,8 +70,8 @@ fn print_wrong(stdout: Stdout, i: usize) {
 // The model count.
 fn count(stdout: Stdout, words: &[u32], variables: u32, nodes: u32) {
     match queries::count_models(words, variables, nodes) {
-        Counted::Refused(why) => print_refusal(stdout, why),
-        Counted::Models(m) => {
+        Err(why) => print_refusal(stdout, why),
+        Ok(m) => {
             print_number(stdout, m);
             print(stdout, b"\n", 1);
         }
@@ -83,28 +81,28 @@ fn count(stdout: Stdout, words: &[u32], variables: u32, nodes: u32) {
 // The value at an assignment.
 fn evaluate(stdout: Stdout, words: &[u32], variables: u32, nodes: u32, assignment: u64) {
     match queries::evaluate(words, variables, nodes, assignment) {
-        Evaluation::Refused(why) => print_refusal(stdout, why),
-        Evaluation::Value(v) => print_answer(stdout, v),
+        Err(why) => print_refusal(stdout, why),
+        Ok(v) => print_answer(stdout, v),
     }
 }
 
 // Whether the term is an implicant, and a prime one.
 fn test(stdout: Stdout, words: &[u32], variables: u32, nodes: u32, t: Term) {
     match queries::implies(words, variables, nodes, t) {
-        Tested::Refused(why) => print_refusal(stdout, why),
-        Tested::Answer(b) => print_answer(stdout, b),
+        Err(why) => print_refusal(stdout, why),
+        Ok(b) => print_answer(stdout, b),
     }
     match queries::is_prime(words, variables, nodes, t) {
-        Tested::Refused(why) => print_refusal(stdout, why),
-        Tested::Answer(b) => print_answer(stdout, b),
+        Err(why) => print_refusal(stdout, why),
+        Ok(b) => print_answer(stdout, b),
     }
 }
 
 // What is left of an assignment.
 fn reduce(stdout: Stdout, words: &[u32], variables: u32, nodes: u32, assignment: u64) {
     match queries::reduce(words, variables, nodes, assignment) {
-        Reduction::Refused(why) => print_refusal(stdout, why),
-        Reduction::Reduced(t) => print_term(stdout, t),
+        Err(why) => print_refusal(stdout, why),
+        Ok(t) => print_term(stdout, t),
     }
 }
 
@@ -125,9 +123,9 @@ fn judge(
     match partial::evaluate_partial(
         words, variables, nodes, t, measured, lows, highs, thresholds,
     ) {
-        PartialEvaluation::Refused(why) => print_refusal(stdout, why),
-        PartialEvaluation::Measurement(i) => print_wrong(stdout, i),
-        PartialEvaluation::Judged(j) => print_judgement(stdout, j),
+        Err(PartialRefusal::Table(why)) => print_refusal(stdout, why),
+        Err(PartialRefusal::Measurement(i)) => print_wrong(stdout, i),
+        Ok(j) => print_judgement(stdout, j),
     }
 }
 

@@ -13,3 +13,4 @@ pub mod Disjunctions
 pub mod Counts
 pub mod Completions
 pub mod Leaves
+pub mod Std

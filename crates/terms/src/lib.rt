@@ -96,10 +96,7 @@ pub fn join(t: Term, u: Term) -> Term
 pub fn inside(t: Term, u: Term) -> bool
     ensures { result ≡ inside t u }
 {
-    if masks::is_subset(t.positive, u.positive) {
-        return masks::is_subset(t.negative, u.negative);
-    }
-    false
+    masks::is_subset(t.positive, u.positive) && masks::is_subset(t.negative, u.negative)
 }
 
 // Some variable has different signs in t and u.

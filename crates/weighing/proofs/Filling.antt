@@ -1,48 +1,25 @@
 -- How the sums are made: byte by byte, and those of a byte by a doubling for each of its variables.
 use Prim.Native.Nat.{ℕ, suc, ◌+◌, ◌-◌, ◌*◌, ◌^◌, ◌<◌, ◌≤◌}
-use mathlib.Core.Path.{◌≡◌, refl, sym, ap, ap₂, subst, ◌∙◌}
+use mathlib.Core.Path.{◌≡◌, refl, sym, ap, ap₂, ◌∙◌}
 use mathlib.Core.Bool.{Bool, false, cond}
 use mathlib.Core.List.{List}
-use mathlib.Core.Logic.{◌⊎◌, inl, inr, ◌≢◌}
 use native.Mathlib.Decide.{dec_lt}
-use native.Mathlib.Nat.{not-suc-le-zero, le_refl, add-zero, pow-suc}
+use native.Mathlib.Nat.{le_refl, add-zero, pow-suc}
 use native.Mathlib.Numerals.{add-one}
 use native.Mathlib.Omega.{arith}
 use lib.Arith.{lt-one}
 use lib.Dec.{not_T}
 use lib.ListN.{length, get_or, set}
-use lib.Seq.{get_or-set_same, get_or-set_other}
+use lib.Seq.{get_or-set_same}
 use Rattle.masks.specs.Mask.{bit}
 use Rattle.masks.specs.Numbers.{total}
 use Rattle.masks.proofs.Masks.{bit-above}
 use Rattle.masks.proofs.Operators.{added-below, added-here}
-use Rattle.masks.proofs.Tests.{is_false, same?}
+use Rattle.masks.proofs.Tests.{is_false}
 use Rattle.masks.proofs.Totals.{total_ext, total-most}
 use Rattle.weighing.specs.Sums.{low_weight, byte_weight, Doubled, FilledByte}
 use Rattle.weighing.specs.Weights.{max_weight, Bounded}
 use Rattle.weighing.proofs.Weights.{chosen-most}
-
--- ---- the loop that doubles
-module _ (s : List ℕ) (at n w : ℕ) where
-  pub doubled-start : Doubled s at n w 0 s
-  doubled-start = record { kept = λ i l. refl; added = λ i l. absurd (not-suc-le-zero l) }
-
-  pub doubled-next : (d : ℕ) (r : List ℕ) → d < n → at + n + d < length r → Doubled s at n w d r
-      → Doubled s at n w (d + 1) (set r (at + n + d) (get_or r (at + d) 0 + w))
-  doubled-next d r l h g =
-      record {
-        kept = λ i k. get_or-set_other r (at + n + d) i v 0 (λ e. omega arith) ∙ g.kept i k;
-        added = λ i k. by i k (same? i d);
-      }
-    where
-      v : ℕ
-      v = get_or r (at + d) 0 + w
-
-      by : (i : ℕ) → i < d + 1 → (i ≡ d) ⊎ (i ≢ d) → get_or (set r (at + n + d) v) (at + n + i) 0 ≡ get_or s (at + i) 0 + w
-      by i k (inl e) =
-          subst (λ (z : ℕ). get_or (set r (at + n + d) v) (at + n + z) 0 ≡ get_or s (at + z) 0 + w) (sym e)
-          (get_or-set_same r (at + n + d) v 0 h ∙ ap (λ (z : ℕ). z + w) (g.kept (at + d) (omega arith)))
-      by i k (inr e) = get_or-set_other r (at + n + d) (at + n + i) v 0 (λ q. e (omega arith)) ∙ g.added i (omega arith)
 
 -- ---- what doubling makes
 module _ (m : List ℕ) (k : ℕ) where
@@ -83,10 +60,6 @@ module _ (m : List ℕ) (k : ℕ) where
           let place : 256 * k + d ≡ 256 * k = omega arith in
           ap (λ (i : ℕ). get_or (set s (256 * k) 0) i 0) place ∙ get_or-set_same s (256 * k) 0 0 h ∙ low-none d
 
-  pub filled-end : (b v : ℕ) (s : List ℕ) {r : List ℕ} → FilledByte m k b (set s (256 * k) v) r → FilledByte m k b s r
-  filled-end b v s f =
-      record { kept = λ i l. f.kept i l ∙ get_or-set_other s (256 * k) i v 0 (λ e. omega arith); made = f.made }
-
   module _ (b n w : ℕ) {s r : List ℕ} (e : n ≡ 2 ^ b) (q : w ≡ weight_at b) (f : FilledByte m k b s r) where
     -- the next sums fit their type
     pub filled-room : Bounded m → b < 8 → (d : ℕ) → d < n → get_or r (256 * k + d) 0 + w < 65536
@@ -123,10 +96,3 @@ module _ (m : List ℕ) (k : ℕ) where
 -- ---- the loop over the bytes: the sums of those below k are made
 abbrev pub FilledBelow : List ℕ → ℕ → List ℕ → Type 0
 FilledBelow m k s = (j : ℕ) → j < k → (d : ℕ) → d < 256 → get_or s (256 * j + d) 0 ≡ byte_weight m j d
-
-pub below_next : (m : List ℕ) (k : ℕ) {s r : List ℕ} → FilledBelow m k s → FilledByte m k 8 s r → FilledBelow m (k + 1) r
-below_next m k {s} {r} h f j l d g = by (same? j k)
-  where
-    by : (j ≡ k) ⊎ (j ≢ k) → get_or r (256 * j + d) 0 ≡ byte_weight m j d
-    by (inl e) = subst (λ (i : ℕ). get_or r (256 * i + d) 0 ≡ byte_weight m i d) (sym e) (f.made d g)
-    by (inr e) = let less : j < k = omega arith in f.kept (256 * j + d) (omega arith) ∙ h j less d g

@@ -1,4 +1,3 @@
-pub mod Scans
 pub mod Weights
 pub mod Filling
 pub mod Sums

@@ -29,27 +29,14 @@ pub const SUMS: usize = BYTES * BYTE_VALUES;
 pub fn fit(weights: &[u32], variables: u32) -> bool
     ensures { result ≡ fitting variables weights.now }
 {
-    if weights.len() != variables as usize {
-        return false;
-    }
-    for x in 0..weights.len() {
-        if weights[x] > MAX_WEIGHT {
-            return false;
-        }
-    }
-    true
+    weights.len() == variables as usize && weights.iter().all(|w| *w <= MAX_WEIGHT)
 }
 
 // Some weight is not 0.
 pub fn any_weight(weights: &[u32]) -> bool
     ensures { result ≡ any (λ v. not (eqb v 0)) weights.now }
 {
-    for x in 0..weights.len() {
-        if weights[x] != 0 {
-            return true;
-        }
-    }
-    false
+    weights.iter().any(|w| *w != 0)
 }
 
 // The weight of variable x; 0 where there is none.

@@ -1,7 +1,7 @@
 -- `measurements::first_wrong` meets its contract. The invariant: no measurement before `i` is wrong, and their variables are seen.
-use Prim.Native.Nat.{◌-◌, ◌≤◌}
 use mathlib.Core.Path.{◌≡◌}
 use Rattle.masks.specs.Numbers.{least}
+use Rattle.terms.specs.Term.{variables}
 use Rattle.measurements.specs.Measurement.{measurements, wrong, Measurements}
 use Rattle.measurements.specs.Walk.{seen}
 use Rattle.measurements.proofs.first_wrong.Given as goal
@@ -9,7 +9,4 @@ use Rattle.measurements.proofs.first_wrong.Given as goal
 abbrev pub invariant-loop-i : goal.invariant-loop-i
 invariant-loop-i l =
     let m : Measurements = measurements l.measured l.lows l.highs l.thresholds in
-    (l.i ≤ l.complete) × (l.seen ≡ seen l.known m l.i) × (least l.i (wrong l.variables l.known m) ≡ l.i)
-
-abbrev pub decreases-loop-i : goal.decreases-loop-i
-decreases-loop-i l = l.complete - l.i
+    (l.seen ≡ seen (variables l.fn.t) m l.i) × (least l.i (wrong l.variables (variables l.fn.t) m) ≡ l.i)

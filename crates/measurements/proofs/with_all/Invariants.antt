@@ -1,5 +1,4 @@
 -- `measurements::with_all` meets its contract. The invariant: the literals of the measurements before `i` are added.
-use Prim.Native.Nat.{◌-◌, ◌≤◌}
 use mathlib.Core.Path.{◌≡◌}
 use Rattle.measurements.specs.Measurement.{measurements}
 use Rattle.measurements.specs.Measurement.{measured_term}
@@ -7,7 +6,4 @@ use Rattle.measurements.proofs.with_all.Given as goal
 
 abbrev pub invariant-loop-i : goal.invariant-loop-i
 invariant-loop-i l =
-    (l.i ≤ l.n) × (l.u ≡ measured_term l.initial.u (measurements l.measured l.lows l.highs l.thresholds) l.i)
-
-abbrev pub decreases-loop-i : goal.decreases-loop-i
-decreases-loop-i l = l.n - l.i
+    l.u ≡ measured_term l.initial.u (measurements l.measured l.lows l.highs l.thresholds) l.i

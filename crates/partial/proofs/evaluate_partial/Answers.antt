@@ -5,6 +5,8 @@ use mathlib.Core.List.{List}
 use native.Mathlib.Nat.{le_refl}
 use native.Mathlib.Omega.{arith}
 use lib.Dec.{T}
+use borrow.Author.Rules.{rules}
+use Rattle.std.specs.Prelude.{Ok, Err}
 use Rattle.table.specs.Outcome.{accepted, after, Outcome, answered}
 use Rattle.table.proofs.Outcomes.{refusal-stands, goes_on, after-accepted}
 use Rattle.terms.specs.Term.{is_term}
@@ -17,6 +19,9 @@ use Rattle.measurements.proofs.Right.{known-passed, wrong-stands, passed-right}
 use Rattle.checks.proofs.Arguments.{term-e}
 use Rattle.queries.specs.Queries.{circuit}
 use Rattle.queries.proofs.Accepted.{accepted-narrow}
+use Rattle.partial.specs.Answers.{partial_outcome}
+use Rattle.partial.specs.declared.PartialRefusal.{PartialRefusal}
+use Rattle.checks.proofs.Refusals.{handed}
 use Rattle.partial.specs.Partial.{judgement, partial_evaluation}
 use Rattle.partial.proofs.evaluate_partial.Goals as goal
 
@@ -35,10 +40,18 @@ last V n w t m = answered (judgement V (circuit n w) (measured_term t m (entries
 abbrev rest : ℕ → ℕ → List ℕ → Term → Measurements → Outcome (ℕ × (ℕ × ℕ))
 rest V n w t m = after (check_measurements V t m) (last V n w t m)
 
+pub returns-in_err-check_term : goal.returns-in_err-check_term
+unfolding partial_evaluation
+returns-in_err-check_term c =
+    let x = c.args in
+    let m = measurements x.measured.now x.lows.now x.highs.now x.thresholds.now in
+    ap partial_outcome (handed _ _ c.from_residual.ensures)
+    ∙ refusal-stands c.check_term.ensures (rest x.variables x.nodes x.words.now x.t m) c.in_err-check_term.was
+
 pub measure-requires : goal.measure-requires
 measure-requires c =
     let x = c.args in
-    let passed = goes_on c.check_term.ensures c.in-Accepted.is in
+    let passed = goes_on c.check_term.ensures c.in_ok-check_term.was in
     let narrow : x.variables ≤ 40 =
     accepted-narrow x.variables x.nodes x.words.now (term-e x.variables x.nodes x.words.now x.t passed).0 in
     omega arith
@@ -47,32 +60,29 @@ pub judge-requires : goal.judge-requires
 judge-requires c =
     let x = c.args in
     let m = measurements x.measured.now x.lows.now x.highs.now x.thresholds.now in
-    let e = term-e x.variables x.nodes x.words.now x.t (goes_on c.check_term.ensures c.in-Accepted.is) in
-    let known = known-passed x.variables x.t m c.in-Known.u (sym c.measure.ensures ∙ ap measured_outcome c.in-Known.is) in
+    let e = term-e x.variables x.nodes x.words.now x.t (goes_on c.check_term.ensures c.in_ok-check_term.was) in
+    let k : c.measure.result ≡ Ok c.in_ok-known.known = search rules in
+    let known = known-passed x.variables x.t m c.in_ok-known.known (sym c.measure.ensures ∙ ap measured_outcome k) in
     (e.0, over x.variables x.t m e.1 known)
 
-pub returns-in-Refused : goal.returns-in-Refused
+pub returns-in_err-known : goal.returns-in_err-known
 unfolding partial_evaluation
-returns-in-Refused c =
-    let x = c.args in
-    refusal-stands c.check_term.ensures
-    (rest x.variables x.nodes x.words.now x.t (measurements x.measured.now x.lows.now x.highs.now x.thresholds.now)) c.in-Refused.is
-
-pub returns-in-Wrong : goal.returns-in-Wrong
-unfolding partial_evaluation
-returns-in-Wrong c =
+returns-in_err-known c =
     let x = c.args in
     let m = measurements x.measured.now x.lows.now x.highs.now x.thresholds.now in
-    wrong-stands x.variables x.t m (last x.variables x.nodes x.words.now x.t m) 53 c.in-Wrong.i
-    (sym c.measure.ensures ∙ ap measured_outcome c.in-Wrong.is)
-    ∙ after-accepted (goes_on c.check_term.ensures c.in-Accepted.is) (rest x.variables x.nodes x.words.now x.t m)
+    let k : (i : ℕ) × (c.measure.result ≡ Err i) × (c.in_err-known.field-0.0 ≡ PartialRefusal.Measurement i) = search rules in
+    ap partial_outcome (handed _ _ c.from_residual-in_err-known.ensures)
+    ∙ ap (λ (p : PartialRefusal). partial_outcome (Err p)) k.2
+    ∙ wrong-stands x.variables x.t m (last x.variables x.nodes x.words.now x.t m) 53 k.0 (sym c.measure.ensures ∙ ap measured_outcome k.1)
+    ∙ after-accepted (goes_on c.check_term.ensures c.in_ok-check_term.was) (rest x.variables x.nodes x.words.now x.t m)
 
-pub returns-in-Known : goal.returns-in-Known
+pub returns : goal.returns
 unfolding partial_evaluation
-returns-in-Known c =
+returns c =
     let x = c.args in
     let m = measurements x.measured.now x.lows.now x.highs.now x.thresholds.now in
-    let known = known-passed x.variables x.t m c.in-Known.u (sym c.measure.ensures ∙ ap measured_outcome c.in-Known.is) in
+    let k : c.measure.result ≡ Ok c.in_ok-known.known = search rules in
+    let known = known-passed x.variables x.t m c.in_ok-known.known (sym c.measure.ensures ∙ ap measured_outcome k) in
     ap answered (c.judge.ensures ∙ ap (judgement x.variables (circuit x.nodes x.words.now)) (sym known.1))
     ∙ after-accepted known.0 (last x.variables x.nodes x.words.now x.t m)
-    ∙ after-accepted (goes_on c.check_term.ensures c.in-Accepted.is) (rest x.variables x.nodes x.words.now x.t m)
+    ∙ after-accepted (goes_on c.check_term.ensures c.in_ok-check_term.was) (rest x.variables x.nodes x.words.now x.t m)

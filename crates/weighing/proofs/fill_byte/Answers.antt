@@ -1,11 +1,10 @@
 use Prim.Native.Nat.{ℕ, ◌*◌, ◌%◌, ◌^◌, ◌<◌, ◌≤◌}
-use mathlib.Core.Path.{◌≡◌, subst, ◌∙◌}
+use mathlib.Core.Path.{◌≡◌, ◌∙◌}
 use native.Mathlib.Omega.{arith}
 use lib.ListN.{length-set}
 use lib.Pow.{pow_mono}
-use Rattle.weighing.specs.Sums.{FilledByte}
 use Rattle.masks.proofs.Operators.{one_shift}
-use Rattle.weighing.proofs.Filling.{filled-start, filled-end, filled-room, filled_next}
+use Rattle.weighing.proofs.Filling.{filled-start, filled-room, filled_next}
 use Rattle.weighing.proofs.fill_byte.Goals as goal
 
 -- `1 << b`, how many sums are made before turn b
@@ -48,11 +47,3 @@ loop-b-preserved c =
       filled_next s.args.weights.now s.args.k l.loop-b.b n w.weight_at.result e w.weight_at.ensures l.loop-b.invariant.2
           a.double.ensures,
     )
-
-pub returns : goal.returns
-returns c =
-    let l = c.before in
-    let s = l.before.before.before in
-    let e : l.loop-b.b ≡ 8 = omega arith in
-    subst (λ (b : ℕ). FilledByte s.args.weights.now s.args.k b s.args.sums.now l.loop-b.sums) e
-    (filled-end s.args.weights.now s.args.k l.loop-b.b 0 s.args.sums.now l.loop-b.invariant.2)

@@ -1,39 +1,27 @@
-use mathlib.Core.Path.{◌≡◌, sym, ap, ap₂, ◌∙◌}
-use mathlib.Core.Bool.{Bool, false, ◌&&◌}
-use native.Mathlib.Omega.{arith}
-use lib.ListN.{length, get_or}
-use borrow.Author.Tests.{eq-eqb, ne_eqb, le-leb, lt-leb}
+-- `weighing::fit` meets its contract.
+use mathlib.Core.Path.{sym, ap, ◌∙◌}
+use mathlib.Core.Bool.{Bool, ◌&&◌}
+use borrow.Author.Tests.{eq-eqb, ne_eqb}
+use Rattle.std.proofs.Common.{rules, tests}
+use Rattle.std.proofs.lemmas.Iterator.{YieldsList-from_slice}
+use Rattle.std.proofs.lemmas.Iterator.Search.{all_from_yields_List}
+use Rattle.std.specs.Prelude.{leb, length}
 use Rattle.terms.specs.Lists.{all}
+use Rattle.terms.proofs.Std.{all_std}
 use Rattle.weighing.specs.Weights.{max_weight, fitting}
-use Rattle.weighing.proofs.Scans.{all-next, all-fails, all_end}
-use Rattle.weighing.proofs.fit.Invariants.{light}
 use Rattle.weighing.proofs.fit.Goals as goal
 
 pub returns-then-weights-variables : goal.returns-then-weights-variables
 unfolding fitting
 returns-then-weights-variables c =
-    let m = c.before.args.weights.now in
-    sym (ap (λ (b : Bool). b && all light m) (ne_eqb (length m) c.before.args.variables c.if-weights-variables.true))
+    let m = c.args.weights.now in
+    all_from_yields_List (λ v. leb v max_weight) _ _ _ c.all.ensures.ran (YieldsList-from_slice m cc) (λ x b q k. search (rules, tests))
+    ∙ all_std (λ v. leb v max_weight) m
+    ∙ sym (ap (λ (b : Bool). b && all (λ v. leb v max_weight) m) (eq-eqb (length m) c.args.variables c.if-weights-variables.true))
 
-pub returns-then-weights-x-gt-MAX_WEIGHT : goal.returns-then-weights-x-gt-MAX_WEIGHT
+pub returns-else-weights-variables : goal.returns-else-weights-variables
 unfolding fitting
-returns-then-weights-x-gt-MAX_WEIGHT c =
+returns-else-weights-variables c =
     let m = c.args.weights.now in
-    let x = c.loop-x.x in
-    let heavy : all light m ≡ false =
-    sym c.loop-x.invariant.1 ∙ all-fails light m x (omega arith) (lt-leb (get_or m x 0) max_weight c.if-weights-x-gt-MAX_WEIGHT.true) in
-    sym (ap₂ ◌&&◌ (eq-eqb (length m) c.args.variables (omega arith)) heavy)
-
-pub loop-x-preserved : goal.loop-x-preserved
-loop-x-preserved c =
-    let m = c.args.weights.now in
-    let x = c.loop-x.x in (
-      omega arith,
-      all-next light m x (omega arith) (le-leb (get_or m x 0) max_weight c.if-weights-x-gt-MAX_WEIGHT.false) ∙ c.loop-x.invariant.1,
-    )
-
-pub returns : goal.returns
-unfolding fitting
-returns c =
-    let m = c.args.weights.now in
-    sym (ap₂ ◌&&◌ (eq-eqb (length m) c.args.variables (omega arith)) (sym c.loop-x.invariant.1 ∙ all_end light m c.loop-x.x (omega arith)))
+    let other = ne_eqb (length m) c.args.variables c.if-weights-variables.false in
+    other ∙ sym (ap (λ (b : Bool). b && all (λ v. leb v max_weight) m) other)

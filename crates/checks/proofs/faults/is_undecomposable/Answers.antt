@@ -1,13 +1,9 @@
 -- `checks::faults::is_undecomposable` meets its contract.
 use mathlib.Core.Path.{ap, ap₂, ◌∙◌}
 use mathlib.Core.Bool.{not, ◌||◌}
-use Rattle.passes.proofs.Readable.{readable-words, read-bounds, gate-bounds, reading}
+use Rattle.passes.proofs.Readable.{read-bounds, gate-bounds, reading}
 use Rattle.checks.proofs.Rules.{meets-from}
 use Rattle.checks.proofs.faults.is_undecomposable.Goals as goal
-
-pub decode_at-node-requires : goal.decode_at-node-requires
-decode_at-node-requires c = readable-words c.args.n c.args.words.now c.requires.0 c.args.i
-    c.requires.1
 
 pub bounds-supports-a : goal.bounds-supports-a
 bounds-supports-a c =

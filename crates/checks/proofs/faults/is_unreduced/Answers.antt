@@ -7,10 +7,6 @@ use Rattle.passes.proofs.Readable.{readable-words, read-children, gate-fits, rea
 use Rattle.checks.proofs.Rules.{unreduced-from}
 use Rattle.checks.proofs.faults.is_unreduced.Goals as goal
 
-pub decode_at-node-requires : goal.decode_at-node-requires
-decode_at-node-requires c = readable-words c.args.n c.args.words.now c.requires.0 c.args.i
-    c.requires.1
-
 pub is_false-requires : goal.is_false-requires
 is_false-requires c =
     let read = reading c.requires.0 c.requires.1 c.decode_at-node.ensures in

@@ -1,5 +1,4 @@
 -- `checks::faults::marked_children` meets its contract. The invariant: the children of the nodes below `j` are marked.
-use Prim.Native.Nat.{◌-◌, ◌≤◌}
 use mathlib.Core.Path.{◌≡◌}
 use mathlib.Core.Bool.{false}
 use lib.ListN.{length}
@@ -9,7 +8,4 @@ use Rattle.passes.specs.Tables.{Holds}
 use Rattle.checks.proofs.faults.marked_children.Given as goal
 
 abbrev pub invariant-loop-j : goal.invariant-loop-j
-invariant-loop-j l = (l.j ≤ l.n) × (length l.marked ≡ max_nodes) × Holds false (is_child l.words l.j) max_nodes l.marked
-
-abbrev pub decreases-loop-j : goal.decreases-loop-j
-decreases-loop-j l = l.n - l.j
+invariant-loop-j l = (length l.marked ≡ max_nodes) × Holds false (is_child l.words l.j) max_nodes l.marked

@@ -28,8 +28,9 @@ returns-then-has_bit c =
     c.variables.ensures
     (sym c.has_bit.ensures ∙ c.if-has_bit.true) c.without.ensures c.implied.ensures
 
-pub returns : goal.returns
-returns c =
-    cannot-strike c.args.variables c.args.n c.args.words.now c.requires.0 c.args.t c.requires.1 c.args.x
+pub returns-else-has_bit : goal.returns-else-has_bit
+returns-else-has_bit c =
+    c.if-has_bit.false
+    ∙ cannot-strike c.args.variables c.args.n c.args.words.now c.requires.0 c.args.t c.requires.1 c.args.x
     c.variables.ensures
     (sym c.has_bit.ensures ∙ c.if-has_bit.false)

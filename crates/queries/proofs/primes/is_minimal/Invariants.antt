@@ -1,5 +1,4 @@
 -- `queries::primes::is_minimal` meets its contract. The invariant: no literal of a variable below `x` can be struck.
-use Prim.Native.Nat.{◌-◌, ◌≤◌}
 use mathlib.Core.Path.{◌≡◌}
 use mathlib.Core.Bool.{true, not}
 use Rattle.masks.specs.Numbers.{implied, every}
@@ -9,8 +8,4 @@ use Rattle.queries.specs.Queries.{circuit}
 use Rattle.queries.proofs.primes.is_minimal.Given as goal
 
 abbrev pub invariant-loop-x : goal.invariant-loop-x
-invariant-loop-x l = (l.x ≤ l.variables)
-    × (every l.x (λ x. implied (mentions l.t x) (not (implicant l.variables (circuit l.n l.words) (without l.t x)))) ≡ true)
-
-abbrev pub decreases-loop-x : goal.decreases-loop-x
-decreases-loop-x l = l.variables - l.x
+invariant-loop-x l = every l.x (λ x. implied (mentions l.t x) (not (implicant l.variables (circuit l.n l.words) (without l.t x)))) ≡ true

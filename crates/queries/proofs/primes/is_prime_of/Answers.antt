@@ -9,9 +9,6 @@ use Rattle.queries.proofs.primes.is_prime_of.Goals as goal
 pub implied-requires : goal.implied-requires
 implied-requires c = accepted-readable c.args.variables c.args.n c.args.words.now c.requires.0
 
-pub is_minimal-requires : goal.is_minimal-requires
-is_minimal-requires c = c.requires
-
 pub returns-then-implied : goal.returns-then-implied
 returns-then-implied c =
     c.is_minimal.ensures
@@ -20,9 +17,10 @@ returns-then-implied c =
     (c.implied.ensures ∙ implied-circuit c.args.variables c.args.n c.args.words.now c.requires.0 c.args.t
     c.requires.1) c.if-implied.true)
 
-pub returns : goal.returns
-returns c =
-    sym
+pub returns-else-implied : goal.returns-else-implied
+returns-else-implied c =
+    c.if-implied.false
+    ∙ sym
     (prime-test c.args.variables (circuit c.args.n c.args.words.now) c.args.t false c.requires.1
     (c.implied.ensures ∙ implied-circuit c.args.variables c.args.n c.args.words.now c.requires.0 c.args.t
     c.requires.1) c.if-implied.false)

@@ -1,11 +1,7 @@
 -- `queries::primes::term_of` meets its contract. The invariant: the term has the literals of the variables below `k`.
-use Prim.Native.Nat.{◌-◌, ◌≤◌}
 use mathlib.Core.Path.{◌≡◌}
 use Rattle.terms.specs.Prime.{assignment_term}
 use Rattle.queries.proofs.primes.term_of.Given as goal
 
 abbrev pub invariant-loop-k : goal.invariant-loop-k
-invariant-loop-k l = (l.k ≤ l.variables) × (l.t ≡ assignment_term l.assignment l.k)
-
-abbrev pub decreases-loop-k : goal.decreases-loop-k
-decreases-loop-k l = l.variables - l.k
+invariant-loop-k l = l.t ≡ assignment_term l.assignment l.k

@@ -68,7 +68,8 @@ module _ (s : List ℕ) where
 
   -- a number at a place, and what is made of it
   number-then : (K : Result (ℕ × ℕ) Misread → Result Opening Misread) (at high next : ℕ) (why : Fault)
-      → ((x : Result (ℕ × ℕ) Misread) → Local opening_at s (λ z. K x) (range_at x)) → Local opening_at s (λ z. K (ranged_at z at 0 high next why)) at
+      → ((x : Result (ℕ × ℕ) Misread) → Local opening_at s (λ z. K x) (range_at x))
+      → Local opening_at s (λ z. K (ranged_at z at 0 high next why)) at
   number-then K at high next why k =
       bind opening_at s range_at (λ z. ranged_at z at 0 high next why) (λ z x. K x) at (ranged-loc at 0 high next why) k
 

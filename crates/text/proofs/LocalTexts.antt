@@ -90,7 +90,8 @@ module _ (s : List ℕ) where
         (λ r. then_by X (λ p v m a. rest-loc op k p v m (with_child cs a)) r.words r.step)))
         (end-loc op at w n cs))
 
-    opened-by : (w : List ℕ) (n : ℕ) (o : Result Opening Misread) → Local stepped_at s (λ z. opened_of (F z) (setting z lines g) w n o) (opening_at o)
+    opened-by : (w : List ℕ) (n : ℕ) (o : Result Opening Misread)
+        → Local stepped_at s (λ z. opened_of (F z) (setting z lines g) w n o) (opening_at o)
     opened-by w n (Err e) = ret stepped_at s (stops e.0 e.1 w) e.1 (omega arith)
     opened-by w n (Ok (Leaf k x p)) = close-loc p w n g.room (encoded k x [])
     opened-by w n (Ok (Line k p)) = ret stepped_at s (record { step = formed (p + 1) n (get_or lines k 0); words = w }) p (omega arith)
@@ -114,7 +115,8 @@ answer_of r = r.answer
 module _ (s : List ℕ) where
   end_by : (N : ℕ) (X : List ℕ → ℕ → ℕ → ℕ → List ℕ → ReadOut) → ((p m a : ℕ) (v : List ℕ) → LocalAnswer answer_of s (λ z. X z p m a v) p)
       → (w : List ℕ) (x : Result Formed Misread) → LocalAnswer answer_of s (λ z. line_end (X z) z N w x) (step_at x)
-  end_by N X f w (Err e) = refused-loc answer_of s (answers (refused (fault_number e.0) e.1) w) (fault_number e.0) e.1 e.1 refl (omega arith)
+  end_by N X f w (Err e) = refused-loc answer_of s (answers (refused (fault_number e.0) e.1) w) (fault_number e.0) e.1 e.1 refl
+      (omega arith)
   end_by N X f w (Ok y) =
       let done : ReadOut = answers (answered (N, y.nodes)) w in
       let shape : ReadOut = answers (refused 11 y.past) w in
@@ -162,7 +164,8 @@ module _ (s : List ℕ) where
   settled-answer m w (answered v) = refl
 
   body-by : (m : ℕ) (x : Result (ℕ × ℕ) Misread) → LocalAnswer answer_of s (λ z. body_of z m x) (range_at x)
-  body-by m (Err u) e q h = refused-loc answer_of s (answers (refused (fault_number u.0) u.1) (replicate m 0)) (fault_number u.0) u.1 u.1 refl
+  body-by m (Err u) e q h = refused-loc answer_of s (answers (refused (fault_number u.0) u.1) (replicate m 0))
+      (fault_number u.0) u.1 u.1 refl
       (omega arith) e q h
   body-by m (Ok (N, p)) e q h =
       let read : List ℕ → ReadOut = (λ z. lines_at max_lines z N (room_of m) (replicate max_lines 0) 0 p 0 (replicate m 0)) in

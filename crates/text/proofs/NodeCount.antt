@@ -123,7 +123,8 @@ module _ (s : List ℕ) where
             (then-grown n (λ p v m a. rest_with k F (setting s lines g) op p v m (with_child cs a)) h (F (at + 1) w n).words
             (F (at + 1) w n).step (f (at + 1) w n))
 
-    grown-opened : (w : List ℕ) (n : ℕ) (o : Result Opening Misread) → NotLine o → Grown n g.room (opened_of F (setting s lines g) w n o).step
+    grown-opened : (w : List ℕ) (n : ℕ) (o : Result Opening Misread) → NotLine o
+        → Grown n g.room (opened_of F (setting s lines g) w n o).step
     grown-opened w n (Err e) h = tt
     grown-opened w n (Ok (Leaf k x p)) h = close-grown p w n g.room (encoded k x [])
     grown-opened w n (Ok (Line k p)) h = absurd h

@@ -73,7 +73,8 @@ module _ (s : List ℕ) (N k room : ℕ) (lines : List ℕ) where
 
   module _ (d : ℕ) (role : Role) (at : ℕ) (w : List ℕ) (n : ℕ) where
     -- a head with no child, and the closing bracket
-    leaf-read : (kd x p : ℕ) (y : Node) (r : List ℕ) → head_at s at role lim ≡ Ok (Leaf kd x p) → encoded kd x [] ≡ encode y → Here s p (41 ∷ r)
+    leaf-read : (kd x p : ℕ) (y : Node) (r : List ℕ) → head_at s at role lim ≡ Ok (Leaf kd x p) → encoded kd x [] ≡ encode y
+        → Here s p (41 ∷ r)
         → StepRead (unless (ltb n room) 15 p) (made p w n (encode y)) (form_at (suc d) G role at w n)
     leaf-read kd x p y r e i h =
         subst (StepRead (unless (ltb n room) 15 p) (made p w n (encode y)))
@@ -148,11 +149,13 @@ module _ (s : List ℕ) (N k room : ℕ) (lines : List ℕ) where
             (form_at (suc d) G role at w n)
         by (yes a) =
             let t : ltb x N ≡ true = lt-ltb x N a in
-            let e : head_at s at role lim ≡ Ok (Leaf kd x p) = head ∙ ap (λ (b : Bool). leaf_of kd (cond b (Ok (x, p)) (misread Range p))) t in
+            let e : head_at s at role lim ≡ Ok (Leaf kd x p) =
+            head ∙ ap (λ (b : Bool). leaf_of kd (cond b (Ok (x, p)) (misread Range p))) t in
             rw t (leaf-read kd x p (literal v x) r e (words v) (past s q (decimal x) (41 ∷ r) h₂))
         by (no a) =
             let t : ltb x N ≡ false = le-ltb x N (omega arith) in
-            let e : head_at s at role lim ≡ misread Range p = head ∙ ap (λ (b : Bool). leaf_of kd (cond b (Ok (x, p)) (misread Range p))) t in
+            let e : head_at s at role lim ≡ misread Range p =
+            head ∙ ap (λ (b : Bool). leaf_of kd (cond b (Ok (x, p)) (misread Range p))) t in
             rw (t, by-head d role at w n (misread Range p) e) (Range, refl, refl)
 
     pub line_read : (j : ℕ) (r : List ℕ) → j < 10000 → LineMay role → Here s at (print_form (line_form j) ++ r)
@@ -183,7 +186,8 @@ module _ (s : List ℕ) (N k room : ℕ) (lines : List ℕ) where
             (form_at (suc d) G role at w n)
         by (yes a) =
             let t : ltb j k ≡ true = lt-ltb j k a in
-            let e : head_at s at role lim ≡ Ok (Line j p) = head ∙ ap (λ (b : Bool). line_of (cond b (Ok (j, p)) (misread Reference p))) t in
+            let e : head_at s at role lim ≡ Ok (Line j p) =
+            head ∙ ap (λ (b : Bool). line_of (cond b (Ok (j, p)) (misread Reference p))) t in
             rw (t, by-head d role at w n (Ok (Line j p)) e)
         by (no a) =
             let t : ltb j k ≡ false = le-ltb j k (omega arith) in

@@ -70,7 +70,8 @@ module _ (s : List ℕ) where
       by (inl e) (inl z) =
           rw (eq-eqb (byte_at s d.past) 10 e, eq-eqb (byte_at s (d.past + 1)) 256 z)
           (λ b. subst IsText (sym (line e) ∙ take_all (d.past + 1) s (past_end s (d.past + 1) b z)) ended_here)
-      by (inl e) (inr z) = rw (eq-eqb (byte_at s d.past) 10 e, ne_eqb (byte_at s (d.past + 1)) 256 z) (rec (d.past + 1) d.nodes d.node w (go_on e) k.0 k.1)
+      by (inl e) (inr z) = rw (eq-eqb (byte_at s d.past) 10 e, ne_eqb (byte_at s (d.past + 1)) 256 z)
+          (rec (d.past + 1) d.nodes d.node w (go_on e) k.0 k.1)
 
   lines-said : (more N room : ℕ) (lines : List ℕ) (k at n : ℕ) (w : List ℕ) → room ≤ 1024 → k + more ≡ 1025 → k ≤ n → n ≤ room
       → Open at → Said (lines_at more s N room lines k at n w).answer

@@ -138,7 +138,8 @@ match-reach s (b ∷ w) at = by (same? (byte_at s at) b) (match-reach s w (at + 
     by (inr e) l = rw (ne_eqb (byte_at s at) b e) (omega arith)
 
 module _ (s : List ℕ) (at : ℕ) where
-  or-reach : (w : Word) (m : Result ℕ ℕ) (others : Result (Word × ℕ) ℕ) → at ≤ matched_at m → at ≤ spelled_at others → at ≤ spelled_at (or_word w m others)
+  or-reach : (w : Word) (m : Result ℕ ℕ) (others : Result (Word × ℕ) ℕ) → at ≤ matched_at m → at ≤ spelled_at others
+      → at ≤ spelled_at (or_word w m others)
   or-reach w (Ok p) others l h = l
   or-reach w (Err p) (Ok (v, q)) l h = h
   or-reach w (Err p) (Err q) l h = omega arith

@@ -3,15 +3,14 @@ use Prim.Native.Char.{code}
 use Rattle.std.specs.Prelude.{ℕ, ◌+◌, ◌<◌, ◌≤◌, ◌&&◌, ◌||◌, cond, List, ltb, leb, eqb, length}
 use Rattle.table.specs.Outcome.{Outcome, answered, refused}
 use Rattle.text.specs.Read.{end, byte_at, number_at}
-use Rattle.text.specs.declared.number.Numeral.{Numeral}
-use Rattle.text.specs.declared.number.Numeral.TheVariants.{Value, Missing}
 use Rattle.text_assignment.specs.declared.assignment.Member.{Member}
 use Rattle.text_assignment.specs.declared.assignment.Member.TheVariants.{Close, Next, Wrong, Unordered}
+use Rattle.std.specs.Prelude.{Option, Some, None}
 
 -- a number from low up to below N, before a space or a closing bracket
-abbrev pub variable_of : List ℕ → ℕ → ℕ → ℕ → Numeral → Member
-variable_of s N low at Missing = Wrong at
-variable_of s N low at (Value v p) =
+abbrev pub variable_of : List ℕ → ℕ → ℕ → ℕ → Option (ℕ × ℕ) → Member
+variable_of s N low at None = Wrong at
+variable_of s N low at (Some (v, p)) =
     cond (eqb (byte_at s p) (code " ") || eqb (byte_at s p) (code ")"))
     (cond (leb low v && ltb v N) (Next v p) (Unordered p))
     (Wrong p)

@@ -17,13 +17,7 @@ use Rattle.text.specs.Ascii.{ascii}
 use Rattle.text.specs.Places.{MatchedRuns, RangedRuns}
 use Rattle.text.specs.Read.{byte_at, number_at, match_at, ranged_of, ranged_at}
 use Rattle.text.specs.declared.answer.Fault.{Fault}
-use Rattle.text.specs.declared.head.InRange.{InRange}
-use Rattle.text.specs.declared.head.InRange.TheVariants.{Inside, Unfit}
-use Rattle.text.specs.declared.head.Matched.{Matched}
-use Rattle.text.specs.declared.head.Matched.TheVariants.{Past, Differs}
-use Rattle.text.specs.declared.number.Numeral.{Numeral}
-use Rattle.text.specs.declared.number.Numeral.TheVariants.{Value, Missing}
-use Rattle.lines.specs.Format.{choice, first, pick, is_picked, starts, Choice, words, number, missing, picked}
+use Rattle.lines.specs.Format.{choice, first, pick, starts, Choice, words, number}
 use Rattle.lines.specs.Reading.{match_then, word_then, number_then, read_piece, end_or, read_from, mapped}
 use Rattle.lines.proofs.Local.{word_read, read_step}
 use Rattle.text_script.specs.Answers.{script_outcome, Told}
@@ -34,6 +28,10 @@ use Rattle.text_script.specs.declared.line.LineReading.{LineReading}
 use Rattle.text_script.specs.declared.script.Script.{Script}
 use Rattle.text_script.specs.declared.script.ScriptReading.{ScriptReading}
 use Rattle.text_script.proofs.Lines.{script-formed}
+use Rattle.std.specs.Prelude.{Option, Some, None, Result, Ok, Err}
+use Rattle.text.specs.declared.answer.Misread.{Misread}
+use Rattle.text.specs.Answers.{misread}
+use Rattle.std.specs.Prelude.{is_some}
 
 module _ (s : List ℕ) (N room : ℕ) where
   -- reading on in a state from a place
@@ -45,16 +43,16 @@ module _ (s : List ℕ) (N room : ℕ) where
   step q at = read_step (script_format N room) (script-formed N room) s q at
 
   -- a word that the byte at the place picks
-  word-is : (at : ℕ) (cs : List (Choice State)) (c : Choice State) (x : Matched) → pick cs (byte_at s at) ≡ picked c
+  word-is : (at : ℕ) (cs : List (Choice State)) (c : Choice State) (x : Result ℕ ℕ) → pick cs (byte_at s at) ≡ Some c
       → match_at s at c.word ≡ x
       → word_then (script_format N room) s on at (pick cs (byte_at s at)) ≡ match_then (script_format N room) s (on c.next) x
   word-is at cs c x e d = word_read (script_format N room) (script-formed N room) s on at cs c x e d
 
   -- ---- the end of a line
-  ended : (es : List Step) (v a : ℕ) (x : Matched)
+  ended : (es : List Step) (v a : ℕ) (x : Result ℕ ℕ)
       → line_then s N room es (ended_by v a x) ≡ match_then (script_format N room) s (on (line (with es v a))) x
-  ended es v a (Past p) = refl
-  ended es v a (Differs p) = refl
+  ended es v a (Ok p) = refl
+  ended es v a (Err p) = refl
 
   module _ (es : List Step) (v at : ℕ) where
     yes-is : byte_at s at ≡ 121 → line_then s N room es (ended_by v 1 (match_at s at (ascii "yes)\n"))) ≡ on (sign es v) at
@@ -71,7 +69,7 @@ module _ (s : List ℕ) (N room : ℕ) where
 
     unsigned : byte_at s at ≢ 121 → byte_at s at ≢ 110 → refused 54 at ≡ on (sign es v) at
     unsigned m n =
-        let e : pick (sign_choices es v) (byte_at s at) ≡ missing =
+        let e : pick (sign_choices es v) (byte_at s at) ≡ None =
         rw (ne_eqb 121 (byte_at s at) (λ e. m (sym e)), ne_eqb 110 (byte_at s at) (λ e. n (sym e))) in
         sym (step (sign es v) at ∙ ap (word_then (script_format N room) s on at) e)
 
@@ -85,7 +83,7 @@ module _ (s : List ℕ) (N room : ℕ) where
     unfolding match_at
     space-is e =
         let c : Choice State = choice (ascii " ") (sign es v) in
-        sym (step (set_to es v) at ∙ word-is at (c ∷ []) c (Past (at + 1)) (rw e) (rw e))
+        sym (step (set_to es v) at ∙ word-is at (c ∷ []) c (Ok (at + 1)) (rw e) (rw e))
 
   -- ---- a variable before the byte that is to follow it
   -- the state q asks for a variable, and after it for the one word w
@@ -95,9 +93,9 @@ module _ (s : List ℕ) (N room : ℕ) where
     pub follow : (v : ℕ) → script_piece N room (next v) ≡ words (choice w (after v) ∷ [])
     pub follow-goes : (v : ℕ) → script_ends (next v) ≡ false
 
-  abbrev RangedThen : List Step → State → (ℕ → State) → ℕ → ℕ → InRange → Type 0
-  RangedThen es q next b at (Unfit f p) = line_then s N room es (unfit_as f p) ≡ on q at
-  RangedThen es q next b at (Inside v p) = (byte_at s p ≡ b) × (on (next v) p ≡ on q at)
+  abbrev RangedThen : List Step → State → (ℕ → State) → ℕ → ℕ → Result (ℕ × ℕ) Misread → Type 0
+  RangedThen es q next b at (Err e) = line_then s N room es (unfit_as e.0 e.1) ≡ on q at
+  RangedThen es q next b at (Ok (v, p)) = (byte_at s p ≡ b) × (on (next v) p ≡ on q at)
 
   module _ (es : List Step) (q : State) (next after : ℕ → State) (w : List ℕ) (h : Asks q next after w) (at : ℕ) where
     -- the number is read
@@ -112,25 +110,25 @@ module _ (s : List ℕ) (N room : ℕ) where
     -- another byte than the word's first
     stuck : (v p : ℕ) → byte_at s p ≢ first w → on (next v) p ≡ refused 54 p
     stuck v p n =
-        let e : pick (choice w (after v) ∷ []) (byte_at s p) ≡ missing = rw (ne_eqb (first w) (byte_at s p) (λ e. n (sym e))) in
+        let e : pick (choice w (after v) ∷ []) (byte_at s p) ≡ None = rw (ne_eqb (first w) (byte_at s p) (λ e. n (sym e))) in
         step (next v) p
         ∙ ap (λ (t : Bool).
         cond (t && eqb (byte_at s p) 256) (answered (next v)) (read_piece (script_format N room) s on p (script_piece N room (next v))))
         (h.follow-goes v)
         ∙ ap (read_piece (script_format N room) s on p) (h.follow v) ∙ ap (word_then (script_format N room) s on p) e
 
-    begins : (v b : ℕ) → starts b (script_piece N room (next v)) ≡ is_picked (pick (choice w (after v) ∷ []) b)
+    begins : (v b : ℕ) → starts b (script_piece N room (next v)) ≡ is_some (pick (choice w (after v) ∷ []) b)
     begins v b = ap (starts b) (h.follow v)
 
-    ranged-by : (x : Numeral) → on q at ≡ number_then (script_format N room) s on (λ v. ltb v N) 55 next at x
+    ranged-by : (x : Option (ℕ × ℕ)) → on q at ≡ number_then (script_format N room) s on (λ v. ltb v N) 55 next at x
         → RangedThen es q next (first w) at (ranged_of s at 0 N (first w) Fault.Range x)
-    ranged-by Missing e = sym e
-    ranged-by (Value v p) e = by (same? (byte_at s p) (first w)) (dec_lt v N)
+    ranged-by None e = sym e
+    ranged-by (Some (v, p)) e = by (same? (byte_at s p) (first w)) (dec_lt v N)
       where
         by : (byte_at s p ≡ first w) ⊎ (byte_at s p ≢ first w) → Dec (v < N)
             → RangedThen es q next (first w) at
             (cond (eqb (byte_at s p) (first w))
-            (cond (ltb v 0) (Unfit Fault.Range p) (cond (leb N v) (Unfit Fault.Range p) (Inside v p))) (Unfit Fault.Shape p))
+            (cond (ltb v 0) (misread Fault.Range p) (cond (leb N v) (misread Fault.Range p) (Ok (v, p)))) (misread Fault.Shape p))
         by (inl i) (yes l) =
             rw (eq-eqb (byte_at s p) (first w) i, le-ltb v 0 (omega arith), lt-leb N v l)
             (i, sym (e ∙ rw (lt-ltb v N l)))
@@ -147,7 +145,7 @@ module _ (s : List ℕ) (N room : ℕ) where
             begins v (byte_at s p) ∙ rw (ne_eqb (first w) (byte_at s p) (λ i. n (sym i))) in
             rw (ne_eqb (byte_at s p) (first w) n) (sym (e ∙ rw (le-ltb v N m, t)))
 
-    ranged-is : (x : InRange) → x ≡ ranged_at s at 0 N (first w) Fault.Range → RangedThen es q next (first w) at x
+    ranged-is : (x : Result (ℕ × ℕ) Misread) → x ≡ ranged_at s at 0 N (first w) Fault.Range → RangedThen es q next (first w) at x
     unfolding ranged_at
     ranged-is x e = subst (RangedThen es q next (first w) at) (sym e) (ranged-by (number_at s at) value-is)
 
@@ -159,31 +157,31 @@ module _ (s : List ℕ) (N room : ℕ) where
 
   -- ---- a line from its word on
   module _ (es : List Step) (at : ℕ) where
-    abbrev keyword : (List Step → State) → Matched → Outcome State
-    keyword q (Past p) = on (q es) p
-    keyword q (Differs p) = refused 54 p
+    abbrev keyword : (List Step → State) → Result ℕ ℕ → Outcome State
+    keyword q (Ok p) = on (q es) p
+    keyword q (Err p) = refused 54 p
 
-    set_is : byte_at s at ≡ 115 → (x : Matched) → x ≡ match_at s at (ascii "set ") → keyword setting x ≡ on (opened es) at
+    set_is : byte_at s at ≡ 115 → (x : Result ℕ ℕ) → x ≡ match_at s at (ascii "set ") → keyword setting x ≡ on (opened es) at
     set_is e x d =
         let c : Choice State = choice (ascii "set ") (setting es) in
         by x ∙ sym (step (opened es) at ∙ word-is at (opened_choices es) c x (rw e) (sym d))
       where
-        by : (x : Matched) → keyword setting x ≡ match_then (script_format N room) s (on (setting es)) x
-        by (Past p) = refl
-        by (Differs p) = refl
+        by : (x : Result ℕ ℕ) → keyword setting x ≡ match_then (script_format N room) s (on (setting es)) x
+        by (Ok p) = refl
+        by (Err p) = refl
 
-    drop-is : byte_at s at ≡ 100 → (x : Matched) → x ≡ match_at s at (ascii "drop ") → keyword dropping x ≡ on (opened es) at
+    drop-is : byte_at s at ≡ 100 → (x : Result ℕ ℕ) → x ≡ match_at s at (ascii "drop ") → keyword dropping x ≡ on (opened es) at
     drop-is e x d =
         let c : Choice State = choice (ascii "drop ") (dropping es) in
         by x ∙ sym (step (opened es) at ∙ word-is at (opened_choices es) c x (rw e) (sym d))
       where
-        by : (x : Matched) → keyword dropping x ≡ match_then (script_format N room) s (on (dropping es)) x
-        by (Past p) = refl
-        by (Differs p) = refl
+        by : (x : Result ℕ ℕ) → keyword dropping x ≡ match_then (script_format N room) s (on (dropping es)) x
+        by (Ok p) = refl
+        by (Err p) = refl
 
     other-is : byte_at s at ≢ 115 → byte_at s at ≢ 100 → refused 54 at ≡ on (opened es) at
     other-is m n =
-        let e : pick (opened_choices es) (byte_at s at) ≡ missing =
+        let e : pick (opened_choices es) (byte_at s at) ≡ None =
         rw (ne_eqb 115 (byte_at s at) (λ e. m (sym e)), ne_eqb 100 (byte_at s at) (λ e. n (sym e))) in
         sym (step (opened es) at ∙ ap (word_then (script_format N room) s on at) e)
 
@@ -210,7 +208,7 @@ module _ (s : List ℕ) (N room : ℕ) where
         let cs : line_choices room es ≡ c ∷ [] = rw (lt-ltb (length es) room l) in
         sym (step (line es) at ∙ rw (ne_eqb (byte_at s at) 256 (λ i. absurd (omega arith)))
         (ap (λ (z : List (Choice State)). word_then (script_format N room) s on at (pick z (byte_at s at))) cs
-        ∙ word-is at (c ∷ []) c (Past (at + 1)) (rw e) (rw e)))
+        ∙ word-is at (c ∷ []) c (Ok (at + 1)) (rw e) (rw e)))
 
 -- ---- the same, whatever the room and the steps before
 later-runs : (s : List ℕ) (at p : ℕ) (r : LineReading) → at ≤ p → LineRuns s p r → LineRuns s at r
@@ -247,51 +245,53 @@ module _ (s : List ℕ) (N at : ℕ) where
   unfit-line q r f p d h =
       (λ room es. ap (line_then s N room es) d ∙ h room es, subst (LineRuns s at) (sym d) (unfit-runs s at p f))
 
-  pub set-unfit : {r : LineReading} (f : Fault) (p : ℕ) → Unfit f p ≡ ranged_at s at 0 N 32 Fault.Range → r ≡ unfit_as f p → Line setting r
+  pub set-unfit : {r : LineReading} (f : Fault) (p : ℕ) → misread f p ≡ ranged_at s at 0 N 32 Fault.Range → r ≡ unfit_as f p
+      → Line setting r
   set-unfit {r} f p e d =
       unfit-line setting r f p d
-      (λ room es. ranged-is s N room es (setting es) (set_to es) (sign es) (ascii " ") (set-asks s N room es) at (Unfit f p) e)
+      (λ room es. ranged-is s N room es (setting es) (set_to es) (sign es) (ascii " ") (set-asks s N room es) at (misread f p) e)
 
-  pub set-inside : (r : LineReading) (v p : ℕ) → Inside v p ≡ ranged_at s at 0 N 32 Fault.Range → RangedRuns s at N (Inside v p)
+  pub set-inside : (r : LineReading) (v p : ℕ) → Ok (v, p) ≡ ranged_at s at 0 N 32 Fault.Range → RangedRuns s at N (Ok (v, p))
       → Reads s N (λ es. sign es v) (p + 1) r × LineRuns s (p + 1) r → Line setting r
   set-inside r v p e n (h, k) = (go, later-runs s at (p + 1) r (omega (arith, n.0)) k)
     where
       go : Reads s N setting at r
       go room es =
-          let (b, i) = ranged-is s N room es (setting es) (set_to es) (sign es) (ascii " ") (set-asks s N room es) at (Inside v p) e in
+          let (b, i) = ranged-is s N room es (setting es) (set_to es) (sign es) (ascii " ") (set-asks s N room es) at (Ok (v, p)) e in
           h room es ∙ space-is s N room es v p b ∙ i
 
-  pub drop-unfit : {r : LineReading} (f : Fault) (p : ℕ) → Unfit f p ≡ ranged_at s at 0 N 41 Fault.Range → r ≡ unfit_as f p → Line dropping r
+  pub drop-unfit : {r : LineReading} (f : Fault) (p : ℕ) → misread f p ≡ ranged_at s at 0 N 41 Fault.Range → r ≡ unfit_as f p
+      → Line dropping r
   drop-unfit {r} f p e d =
       unfit-line dropping r f p d
       (λ room es.
-      ranged-is s N room es (dropping es) (dropped es) (λ v. line (with es v 2)) (ascii ")\n") (drop-asks s N room es) at (Unfit f p) e)
+      ranged-is s N room es (dropping es) (dropped es) (λ v. line (with es v 2)) (ascii ")\n") (drop-asks s N room es) at (misread f p) e)
 
-  pub drop-inside : (r : LineReading) (v p : ℕ) → Inside v p ≡ ranged_at s at 0 N 41 Fault.Range → RangedRuns s at N (Inside v p)
+  pub drop-inside : (r : LineReading) (v p : ℕ) → Ok (v, p) ≡ ranged_at s at 0 N 41 Fault.Range → RangedRuns s at N (Ok (v, p))
       → (r ≡ ended_by v 2 (match_at s p (ascii ")\n"))) × LineRuns s p r → Line dropping r
   drop-inside r v p e n (d, k) = (go, later-runs s at p r (omega (arith, n.0)) k)
     where
       go : Reads s N dropping at r
       go room es =
           let (b, i) = ranged-is s N room es (dropping es) (dropped es) (λ v. line (with es v 2)) (ascii ")\n") (drop-asks s N room es) at
-          (Inside v p) e in
+          (Ok (v, p)) e in
           ap (line_then s N room es) d ∙ dropped-is s N room es v p b ∙ i
 
   -- ---- the word of a line
   module _ {c : ℕ} (b : c ≡ byte_at s at) where
-    pub set-differs : (p : ℕ) → c ≡ 115 → Differs p ≡ match_at s at (ascii "set ") → Reads s N opened at (LineReading.Shape p)
-    set-differs p e d room es = set_is s N room es at (sym b ∙ e) (Differs p) d
+    pub set-differs : (p : ℕ) → c ≡ 115 → Err p ≡ match_at s at (ascii "set ") → Reads s N opened at (LineReading.Shape p)
+    set-differs p e d room es = set_is s N room es at (sym b ∙ e) (Err p) d
 
-    pub set_past : (r : LineReading) (p : ℕ) → c ≡ 115 → Past p ≡ match_at s at (ascii "set ") → MatchedRuns s at (Past p)
+    pub set_past : (r : LineReading) (p : ℕ) → c ≡ 115 → Ok p ≡ match_at s at (ascii "set ") → MatchedRuns s at (Ok p)
         → Reads s N setting p r × LineRuns s p r → Line opened r
-    set_past r p e d m (h, k) = (λ room es. h room es ∙ set_is s N room es at (sym b ∙ e) (Past p) d, later-runs s at p r m.0 k)
+    set_past r p e d m (h, k) = (λ room es. h room es ∙ set_is s N room es at (sym b ∙ e) (Ok p) d, later-runs s at p r m.0 k)
 
-    pub drop-differs : (p : ℕ) → c ≡ 100 → Differs p ≡ match_at s at (ascii "drop ") → Reads s N opened at (LineReading.Shape p)
-    drop-differs p e d room es = drop-is s N room es at (sym b ∙ e) (Differs p) d
+    pub drop-differs : (p : ℕ) → c ≡ 100 → Err p ≡ match_at s at (ascii "drop ") → Reads s N opened at (LineReading.Shape p)
+    drop-differs p e d room es = drop-is s N room es at (sym b ∙ e) (Err p) d
 
-    pub drop_past : (r : LineReading) (p : ℕ) → c ≡ 100 → Past p ≡ match_at s at (ascii "drop ") → MatchedRuns s at (Past p)
+    pub drop_past : (r : LineReading) (p : ℕ) → c ≡ 100 → Ok p ≡ match_at s at (ascii "drop ") → MatchedRuns s at (Ok p)
         → Reads s N dropping p r × LineRuns s p r → Line opened r
-    drop_past r p e d m (h, k) = (λ room es. h room es ∙ drop-is s N room es at (sym b ∙ e) (Past p) d, later-runs s at p r m.0 k)
+    drop_past r p e d m (h, k) = (λ room es. h room es ∙ drop-is s N room es at (sym b ∙ e) (Ok p) d, later-runs s at p r m.0 k)
 
     pub other-reads : c ≢ 115 → c ≢ 100 → Reads s N opened at (LineReading.Shape at)
     other-reads m n room es = other-is s N room es at (λ e. m (b ∙ e)) (λ e. n (b ∙ e))

@@ -4,11 +4,10 @@ use Rattle.steps.specs.declared.Step.{Step}
 use Rattle.table.specs.Outcome.{Outcome, refused}
 use Rattle.text.specs.Read.{match_at}
 use Rattle.text.specs.declared.answer.Fault.{Fault}
-use Rattle.text.specs.declared.head.Matched.{Matched}
-use Rattle.text.specs.declared.head.Matched.TheVariants.{Past, Differs}
 use Rattle.lines.specs.Reading.{read_from}
 use Rattle.text_script.specs.Script.{with, script_format, State, line}
 use Rattle.text_script.specs.declared.line.LineReading.{LineReading}
+use Rattle.std.specs.Prelude.{Result, Ok, Err}
 
 -- what is read after the steps es where the line is read as r
 abbrev pub line_then : List ℕ → ℕ → ℕ → List Step → LineReading → Outcome State
@@ -20,9 +19,9 @@ line_then s N room es (LineReading.Variable p) = refused 55 p
 abbrev pub Reads : List ℕ → ℕ → (List Step → State) → ℕ → LineReading → Type 0
 Reads s N q at r = (room : ℕ) (es : List Step) → line_then s N room es r ≡ read_from (script_format N room) s (q es) at
 
-abbrev pub ended_by : ℕ → ℕ → Matched → LineReading
-ended_by v a (Past p) = LineReading.Step v a p
-ended_by v a (Differs p) = LineReading.Shape p
+abbrev pub ended_by : ℕ → ℕ → Result ℕ ℕ → LineReading
+ended_by v a (Ok p) = LineReading.Step v a p
+ended_by v a (Err p) = LineReading.Shape p
 
 -- a word at the end of a line
 abbrev pub Ended : List ℕ → ℕ → List ℕ → ℕ → ℕ → LineReading → Type 0

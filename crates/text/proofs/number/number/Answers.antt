@@ -1,4 +1,5 @@
-use Rattle.std.proofs.Common.{◌≡◌, ◌+◌, ◌-◌, ◌*◌, ◌^◌, ◌<◌, ◌≤◌, ℕ, zero, suc, List, Some, None, sym, ◌∙◌, add_assoc, add-one, pow-suc, lit≤, arith}
+use Rattle.std.proofs.Common.{◌≡◌, ◌+◌, ◌-◌, ◌*◌, ◌^◌, ◌<◌, ◌≤◌, ℕ, zero, suc}
+use Rattle.std.proofs.Common.{List, Some, None, sym, ◌∙◌, add_assoc, add-one, pow-suc, lit≤, arith}
 use borrow.Author.Tests.{ne_eqb}
 use Rattle.text.specs.Read.{digit_at, digits_at, number_at}
 use Rattle.text.proofs.number.number.Goals as goal

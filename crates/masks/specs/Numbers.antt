@@ -1,5 +1,6 @@
 -- Tests of the numbers below a bound.
 use Rattle.std.specs.Prelude.{ℕ, zero, suc, ◌+◌, ◌<◌, Bool, true, false, ◌&&◌, ◌||◌, not, cond, List, [], ◌∷◌, ◌++◌, T, ltb}
+use Rattle.std.specs.Prelude.{Option, Some, None}
 
 -- 1 for true, 0 for false
 abbrev pub digit : Bool → ℕ
@@ -35,6 +36,10 @@ total (suc n) f = total n f + f n
 unfoldable pub least : ℕ → (ℕ → Bool) → ℕ
 least zero p = 0
 least (suc n) p = let l : ℕ = least n p in cond (ltb l n) l (cond (p n) n (suc n))
+
+-- the same as an answer, None where none does
+unfoldable pub first : ℕ → (ℕ → Bool) → Option ℕ
+first n p = let l : ℕ = least n p in cond (ltb l n) (Some l) None
 
 -- the numbers below n, rising
 unfoldable pub below : ℕ → List ℕ

@@ -1,5 +1,5 @@
 -- Laws of the columns of a list of steps, and of the steps that are read from columns.
-use Prim.Native.Nat.{ℕ, zero, suc, ◌+◌, ◌<◌, ◌≤◌}
+use Prim.Native.Nat.{ℕ, zero, suc, min, ◌+◌, ◌<◌, ◌≤◌}
 use mathlib.Core.Path.{◌≡◌, refl, sym, ap, ap₂, ◌∙◌}
 use mathlib.Core.Bool.{Bool, true, false}
 use mathlib.Core.Logic.{⊎_elim}
@@ -14,7 +14,7 @@ use lib.Seq.{length-take-le, take-suc, take-append-le, take-length, take_all, ta
 use lib.Seq.{get_or-take, get_or_at}
 use borrow.Author.Tests.{lt-ltb, ltb-true, ltb-false}
 use Rattle.masks.specs.Numbers.{below}
-use Rattle.steps.specs.Steps.{no_step, no_columns, put, step_of, column, columns, steps_in, lesser, stored}
+use Rattle.steps.specs.Steps.{no_step, no_columns, put, step_of, column, columns, steps_in, stored}
 use Rattle.steps.specs.declared.Step.{Step}
 use Rattle.steps.specs.declared.Columns.{Columns}
 
@@ -180,47 +180,32 @@ steps-again ss h = steps-taken ss (length ss) (le_refl (length ss)) h ∙ take-l
 pub steps-cut : (ss : List Step) (k : ℕ) → k ≤ length ss → k ≤ 256 → take k (steps_in (columns ss) (length ss)) ≡ take k ss
 steps-cut ss k h g = steps_first (columns ss) (length ss) k h ∙ steps-taken ss k h g
 
--- ---- the lesser of two numbers, and the steps that the columns keep
-module _ (m n : ℕ) where
-  lesser-left : m ≤ n → lesser m n ≡ m
-  lesser-left h = by (ltb m n) refl
-    where
-      by : (b : Bool) → ltb m n ≡ b → lesser m n ≡ m
-      by true e = rw e
-      by false e = let l : n ≤ m = ltb-false m n e in rw e (omega arith)
-
-  pub lesser-first : lesser m n ≤ m
-  lesser-first = by (ltb m n) refl
-    where
-      by : (b : Bool) → ltb m n ≡ b → lesser m n ≤ m
-      by true e = rw e (le_refl m)
-      by false e = rw e (ltb-false m n e)
-
-  pub lesser-right : lesser m n ≤ n
-  lesser-right = by (ltb m n) refl
-    where
-      by : (b : Bool) → ltb m n ≡ b → lesser m n ≤ n
-      by true e = let l : m < n = ltb-true m n e in rw e (omega arith)
-      by false e = rw e (le_refl n)
-
+-- ---- the steps that the columns keep
 -- the columns of the first 256 steps are those of all of them
-pub columns-first : (ss : List Step) → columns (take (lesser (length ss) 256) ss) ≡ columns ss
+pub columns-first : (ss : List Step) → columns (take (min (length ss) 256) ss) ≡ columns ss
 columns-first ss = by (ltb (length ss) 256) refl
   where
-    by : (b : Bool) → ltb (length ss) 256 ≡ b → columns (take (lesser (length ss) 256) ss) ≡ columns ss
-    by true e = rw (e, take-length ss)
-    by false e = rw e (columns-full ss 256 (le_refl 256) (ltb-false (length ss) 256 e))
+    by : (b : Bool) → ltb (length ss) 256 ≡ b → columns (take (min (length ss) 256) ss) ≡ columns ss
+    by true h =
+        let l : length ss < 256 = ltb-true (length ss) 256 h in
+        let e : min (length ss) 256 ≡ length ss = omega arith in
+        rw (e, take-length ss)
+    by false h =
+        let l : 256 ≤ length ss = ltb-false (length ss) 256 h in
+        let e : min (length ss) 256 ≡ 256 = omega arith in
+        rw e (columns-full ss 256 (le_refl 256) l)
 
 -- ---- a list into which the first n steps of columns are stored
 pub stored-all : (ss ys : List Step) → length ss ≤ 256 → length ss ≤ length ys
     → stored (columns ss) (length ss) ys ≡ ss ++ drop (length ss) ys
 unfolding stored
-stored-all ss ys h g = rw (lesser-left (length ss) (length ys) g, steps-again ss h)
+stored-all ss ys h g =
+    let e : min (length ss) (length ys) ≡ length ss = omega arith in rw (e, steps-again ss h)
 
 module _ (c : Columns) (ys : List Step) where
   pub stored-none : stored c 0 ys ≡ ys
   unfolding stored steps_in below
-  stored-none = rw (lesser-left 0 (length ys) (omega arith))
+  stored-none = let e : min 0 (length ys) ≡ 0 = omega arith in rw e
 
   -- the list while it is stored: i steps are those of the columns, and the others are as they were
   abbrev pub storing : ℕ → List Step
@@ -241,10 +226,16 @@ module _ (c : Columns) (ys : List Step) where
       ∙ rw (add-one, steps-suc)
 
   -- where the list is shorter than n, nothing is left of it
-  pub storing-all : (n : ℕ) → storing (lesser n (length ys)) ≡ stored c n ys
+  pub storing-all : (n : ℕ) → storing (min n (length ys)) ≡ stored c n ys
   unfolding stored
   storing-all n = by (ltb n (length ys)) refl
     where
-      by : (b : Bool) → ltb n (length ys) ≡ b → storing (lesser n (length ys)) ≡ steps_in c (lesser n (length ys)) ++ drop n ys
-      by true e = rw e
-      by false e = rw (e, drop-length ys, drop_of_length-le ys {i = n} (ltb-false n (length ys) e))
+      by : (b : Bool) → ltb n (length ys) ≡ b → storing (min n (length ys)) ≡ steps_in c (min n (length ys)) ++ drop n ys
+      by true h =
+          let l : n < length ys = ltb-true n (length ys) h in
+          let e : min n (length ys) ≡ n = omega arith in
+          rw e
+      by false h =
+          let l : length ys ≤ n = ltb-false n (length ys) h in
+          let e : min n (length ys) ≡ length ys = omega arith in
+          rw (e, drop-length ys, drop_of_length-le ys {i = n} l)

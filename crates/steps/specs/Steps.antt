@@ -1,5 +1,5 @@
 -- The steps of a loading script ("script"): a list of records, and the same in columns of plain words.
-use Rattle.std.specs.Prelude.{ℕ, cond, List, ◌++◌, map, ltb, length, get_or, set, take, drop, replicate}
+use Rattle.std.specs.Prelude.{ℕ, cond, min, List, ◌++◌, map, ltb, length, get_or, set, take, drop, replicate}
 use Rattle.masks.specs.Numbers.{below}
 use Rattle.steps.specs.declared.Step.{Step}
 use Rattle.steps.specs.declared.Columns.{Columns}
@@ -35,9 +35,6 @@ columns ss = record { variables = column (map (λ s. s.variable) ss); acts = col
 unfoldable pub steps_in : Columns → ℕ → List Step
 steps_in c k = map (step_of c) (below k)
 
-abbrev pub lesser : ℕ → ℕ → ℕ
-lesser m n = cond (ltb m n) m n
-
 -- the list with the first n steps of the columns, as far as it goes
 unfoldable pub stored : Columns → ℕ → List Step → List Step
-stored c n ys = steps_in c (lesser n (length ys)) ++ drop n ys
+stored c n ys = steps_in c (min n (length ys)) ++ drop n ys

@@ -2,7 +2,7 @@
 #![tactic(auto)]
 
 ghost use Rattle.std.specs.Prelude.{◌≡◌, ◌<◌, length, get_or};
-ghost use Rattle.steps.specs.Steps.{no_step, no_columns, put, step_of, columns, lesser, stored};
+ghost use Rattle.steps.specs.Steps.{no_step, no_columns, put, step_of, columns, stored};
 
 // How many steps a script has at most.
 pub const MAX_STEPS: usize = 256;
@@ -63,12 +63,6 @@ pub fn step_of(c: Columns, i: usize) -> Step
     }
 }
 
-fn lesser_of(m: usize, n: usize) -> usize
-    ensures { result ≡ lesser m n }
-{
-    if m < n { m } else { n }
-}
-
 // A step of the list.
 pub fn step_at(steps: &[Step], i: usize) -> Step
     requires { i < length steps.now }
@@ -81,12 +75,10 @@ pub fn step_at(steps: &[Step], i: usize) -> Step
 pub fn columns_of(steps: &[Step]) -> Columns
     ensures { result ≡ columns steps.now }
 {
-    let m = lesser_of(steps.len(), MAX_STEPS);
+    let m = steps.len().min(MAX_STEPS);
     let mut c = no_columns();
-    let mut i = 0;
-    while i < m {
+    for i in 0..m {
         c = with_step(c, i, step_at(steps, i));
-        i = i + 1;
     }
     c
 }
@@ -95,10 +87,7 @@ pub fn columns_of(steps: &[Step]) -> Columns
 pub fn store(c: Columns, n: usize, steps: &mut [Step])
     ensures { steps.new ≡ stored c n steps.old }
 {
-    let m = lesser_of(n, steps.len());
-    let mut i = 0;
-    while i < m {
+    for i in 0..n.min(steps.len()) {
         steps[i] = step_of(c, i);
-        i = i + 1;
     }
 }

@@ -9,7 +9,9 @@ use native.Mathlib.Omega.{arith}
 use lib.Dec.{T, ltb, leb→le, nltb→le}
 use lib.ListN.{length}
 use borrow.Author.Tests.{lt-ltb, le-ltb}
-use Rattle.masks.specs.Numbers.{least}
+use Rattle.std.specs.Prelude.{Some, None}
+use Rattle.masks.specs.Numbers.{least, first}
+use Rattle.masks.proofs.Least.{first-some, first-nowhere}
 use Rattle.masks.proofs.Numbers.{least-none}
 use Rattle.masks.proofs.Tests.{and_l, and_r, along}
 use Rattle.table.specs.Layout.{words_for}
@@ -27,14 +29,15 @@ range-e N n w h = (
 )
 
 -- ---- the rules in turn
-module _ (n k : ℕ) (p : ℕ → Bool) (rs : List (ℕ × (ℕ → Bool))) (i : ℕ) (e : i ≡ least n p) where
-  pub fault-here : i < n → first_fault n ((k, p) ∷ rs) ≡ refused k i
-  fault-here l =
-      ap₂ (λ (t : Bool) (j : ℕ). cond t (refused k j) (first_fault n rs)) (lt-ltb (least n p) n (subst (λ (j : ℕ). j < n) e l)) (sym e)
+module _ (n k : ℕ) (p : ℕ → Bool) (rs : List (ℕ × (ℕ → Bool))) where
+  pub fault-here : {i : ℕ} → first n p ≡ Some i → first_fault n ((k, p) ∷ rs) ≡ refused k i
+  fault-here {i} e =
+      let f : (i ≡ least n p) × (i < n) = first-some p n e in
+      ap₂ (λ (t : Bool) (j : ℕ). cond t (refused k j) (first_fault n rs)) (lt-ltb (least n p) n (subst (λ (j : ℕ). j < n) f.0 f.1)) (sym f.0)
 
-  pub fault-later : n ≤ i → first_fault n ((k, p) ∷ rs) ≡ first_fault n rs
-  fault-later l =
-      ap (λ (t : Bool). cond t (refused k (least n p)) (first_fault n rs)) (le-ltb (least n p) n (subst (λ (j : ℕ). n ≤ j) e l))
+  pub fault-later : first n p ≡ None → first_fault n ((k, p) ∷ rs) ≡ first_fault n rs
+  fault-later e =
+      ap (λ (t : Bool). cond t (refused k (least n p)) (first_fault n rs)) (le-ltb (least n p) n (first-nowhere p n e))
 
 -- 21, and what comes after it
 module _ (N n : ℕ) (w : List ℕ) (rs : List (ℕ × (ℕ → Bool))) where

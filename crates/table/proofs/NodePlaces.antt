@@ -7,7 +7,7 @@ use native.Mathlib.Decide.{dec_lt}
 use native.Mathlib.Nat.{add-zero}
 use native.Mathlib.Omega.{arith}
 use lib.ListN.{length, get_or, set, take, drop, length-drop, get_or-append}
-use lib.Seq.{sets, take-suc, length-take-le, ext_get_or, get_or-take, get_or-drop, take-add}
+use lib.Seq.{sets, length-take-le, ext_get_or, get_or-take, get_or-drop, take-add}
 use Rattle.table.specs.Layout.{node_words, max_children, words_for, eight, words_at, word_list}
 use Rattle.table.specs.declared.layout.NodeWords.{NodeWords}
 
@@ -107,10 +107,3 @@ sets-append l i [] ys = ap (λ (k : ℕ). sets l k ys) (sym (add-zero i))
 sets-append l i (x ∷ xs) ys =
     let e : suc i + length xs ≡ i + suc (length xs) = omega arith in
     sets-append (set l i x) (suc i) xs ys ∙ ap (λ (k : ℕ). sets (sets (set l i x) (suc i) xs) k ys) e
-
--- one store more
-pub sets_more : (l : List ℕ) (i : ℕ) (xs : List ℕ) (k : ℕ) → k < length xs
-    → set (sets l i (take k xs)) (i + k) (get_or xs k 0) ≡ sets l i (take (suc k) xs)
-sets_more l i xs k h =
-    let n : length (take k xs) ≡ k = length-take-le k xs (omega arith) in
-    rw (take-suc xs k 0 h, sets-append l i (take k xs) (get_or xs k 0 ∷ []), n)

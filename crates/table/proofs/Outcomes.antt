@@ -3,16 +3,16 @@ use Prim.Native.Nat.{ℕ}
 use mathlib.Core.Path.{◌≡◌, refl, sym, ap, ap₂, ◌∙◌}
 use mathlib.Core.Bool.{Bool, true, false, cond}
 use native.Mathlib.Omega.{arith}
-use Rattle.table.specs.Outcome.{accepted, after, refused_by, checked, Outcome, answered, refused}
-use Rattle.table.specs.declared.Checked.{Checked}
+use Rattle.std.specs.Prelude.{Result, Ok, Err}
+use Rattle.table.specs.Outcome.{accepted, after, refused_by, outcome, Outcome, answered, refused}
 use Rattle.table.specs.declared.Refusal.{Refusal}
 
-module _ {chk : Outcome (Unit {0})} {c : Checked} (e : checked c ≡ chk) where
-  pub refusal-stands : {A : Type 0} {r : Refusal} (o : Outcome A) → c ≡ Checked.Refused r → refused_by r ≡ after chk o
-  refusal-stands o d = ap (λ (z : Outcome (Unit {0})). after z o) (sym (ap checked d) ∙ e)
+module _ {chk : Outcome (Unit {0})} {c : Result (Unit {0}) Refusal} (e : outcome c ≡ chk) where
+  pub refusal-stands : {A : Type 0} {r : Refusal} (o : Outcome A) → c ≡ Err r → refused_by r ≡ after chk o
+  refusal-stands o d = ap (λ (z : Outcome (Unit {0})). after z o) (sym (ap outcome d) ∙ e)
 
-  pub goes_on : c ≡ Checked.Accepted → chk ≡ accepted
-  goes_on d = sym e ∙ ap checked d
+  pub goes_on : c ≡ Ok tt → chk ≡ accepted
+  goes_on d = sym e ∙ ap outcome d
 
 module _ {A : Type 0} {chk : Outcome (Unit {0})} (e : chk ≡ accepted) where
   pub after-accepted : (o : Outcome A) → o ≡ after chk o

@@ -1,7 +1,5 @@
 -- What an operation answers, and the scope's numbers of its refusals.
-use Rattle.std.specs.Prelude.{ℕ}
-use Rattle.table.specs.declared.Checked.{Checked}
-use Rattle.table.specs.declared.Checked.TheVariants.{Accepted, Refused}
+use Rattle.std.specs.Prelude.{ℕ, Result, Ok, Err}
 use Rattle.table.specs.declared.Refusal.{Refusal}
 use Rattle.table.specs.declared.Refusal.TheVariants.{Sizes, Malformed, Parentless, Undecomposable, Unreduced, Assignment}
 use Rattle.table.specs.declared.Refusal.TheVariants.{NotTerm, Unsatisfied, Buffers, Weights, Exclusions, Capacity}
@@ -52,6 +50,7 @@ node_of Capacity = 0
 abbrev pub refused_by : {A : Type 0} → Refusal → Outcome A
 refused_by r = refused (number_of r) (node_of r)
 
-abbrev pub checked : Checked → Outcome (Unit {0})
-checked Accepted = accepted
-checked (Refused r) = refused_by r
+-- what the code answers: a value, or why not
+abbrev pub outcome : {A : Type 0} → Result A Refusal → Outcome A
+outcome (Ok a) = answered a
+outcome (Err r) = refused_by r

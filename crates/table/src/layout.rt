@@ -78,11 +78,7 @@ fn put_eight(words: &mut [u32], at: usize, nodes: [u32; MAX_CHILDREN])
     requires { at + max_children ≤ length words.old }
     ensures { words.new ≡ sets words.old at nodes }
 {
-    let mut k = 0;
-    while k < MAX_CHILDREN {
-        words[at + k] = nodes[k];
-        k += 1;
-    }
+    words[at..at + MAX_CHILDREN].copy_from_slice(&nodes);
 }
 
 // Makes the words of node i.

@@ -55,13 +55,6 @@ pub enum Refusal {
     Capacity,
 }
 
-// Whether a table, or an argument with it, is accepted.
-#[derive(Clone, Copy)]
-pub enum Checked {
-    Accepted,
-    Refused(Refusal),
-}
-
 // The scope's number of a refusal.
 pub fn number_of(why: Refusal) -> u32
     ensures { result ≡ number_of why }

@@ -1,13 +1,13 @@
 // The checks of a table's numbers and words: 21 and 22.
 ghost use Rattle.std.specs.Prelude.{◌≡◌, not, ◌+◌, ◌≤◌, ◌<◌, length};
-ghost use Rattle.masks.specs.Numbers.{least};
+ghost use Rattle.masks.specs.Numbers.{first};
 ghost use Rattle.table.specs.Layout.{words_for};
 ghost use Rattle.table.specs.Node.{max_nodes};
-ghost use Rattle.table.specs.Outcome.{checked};
+ghost use Rattle.table.specs.Outcome.{outcome};
 ghost use Rattle.table.specs.Words.{word_fits, children_fit, well_formed, in_range, malformed, check_words};
 
 use super::layout::{Children, MAX_CHILDREN, NodeWords, words_at, words_for};
-use super::{Checked, MAX_NODES, MAX_VARIABLES, Refusal};
+use super::{MAX_NODES, MAX_VARIABLES, Refusal};
 
 // 1 to 40 variables, 1 to 1,024 nodes, and words enough for them.
 fn in_range(words: &[u32], variables: u32, nodes: u32) -> bool
@@ -33,12 +33,10 @@ fn children_fit(children: Children, parent: u32) -> bool
 {
     let count = children.count as usize;
     let nodes = children.nodes;
-    let mut k = 0;
-    while k < MAX_CHILDREN {
+    for k in 0..MAX_CHILDREN {
         if !word_fits(k < count, parent, nodes[k]) {
             return false;
         }
-        k += 1;
     }
     true
 }
@@ -71,32 +69,28 @@ fn is_malformed(words: &[u32], variables: u32, i: usize) -> bool
     is_unfit(words_at(words, i), variables, i as u32)
 }
 
-// 22: the lowest malformed node; n where there is none.
-fn first_malformed(words: &[u32], variables: u32, n: usize) -> usize
+// 22: the lowest malformed node.
+fn first_malformed(words: &[u32], variables: u32, n: usize) -> Option<usize>
     requires { (n ≤ max_nodes) × (words_for n ≤ length words.now) }
-    ensures { result ≡ least n (malformed variables words.now) }
+    ensures { result ≡ first n (malformed variables words.now) }
 {
-    let mut i = 0;
-    while i < n {
+    for i in 0..n {
         if is_malformed(words, variables, i) {
-            return i;
+            return Some(i);
         }
-        i += 1;
     }
-    i
+    None
 }
 
 // 21, then 22 with its lowest node.
-pub fn check_words(words: &[u32], variables: u32, nodes: u32) -> Checked
-    ensures { checked result ≡ check_words variables nodes words.now }
+pub fn check_words(words: &[u32], variables: u32, nodes: u32) -> Result<(), Refusal>
+    ensures { outcome result ≡ check_words variables nodes words.now }
 {
     if !in_range(words, variables, nodes) {
-        return Checked::Refused(Refusal::Sizes);
+        return Err(Refusal::Sizes);
     }
-    let n = nodes as usize;
-    let i = first_malformed(words, variables, n);
-    if i < n {
-        return Checked::Refused(Refusal::Malformed(i as u32));
+    match first_malformed(words, variables, nodes as usize) {
+        Some(i) => Err(Refusal::Malformed(i as u32)),
+        None => Ok(()),
     }
-    Checked::Accepted
 }

@@ -4,7 +4,7 @@ use Rattle.steps.proofs.ColumnLaws.{storing}
 use Rattle.steps.proofs.store.Given as goal
 
 abbrev pub invariant-loop-i : goal.invariant-loop-i
-invariant-loop-i l = (l.i ≤ l.m) × (l.steps ≡ storing l.c l.initial.steps l.i)
+invariant-loop-i l = (l.i ≤ l.i-end) × (l.steps ≡ storing l.c l.initial.steps l.i)
 
 abbrev pub decreases-loop-i : goal.decreases-loop-i
-decreases-loop-i l = l.m - l.i
+decreases-loop-i l = l.i-end - l.i

@@ -5,7 +5,6 @@ use native.Mathlib.Omega.{arith}
 use native.Mathlib.Numerals.{add-one}
 use Rattle.masks.specs.Numbers.{every}
 use Rattle.masks.proofs.Numbers.{every-fails}
-use Rattle.masks.proofs.Tests.{was-false, was-true}
 use Rattle.table.specs.Layout.{max_children}
 use Rattle.table.specs.Words.{children_fit}
 use Rattle.table.proofs.words.children_fit.Invariants.{place_fits}
@@ -22,7 +21,7 @@ returns-then-not-word_fits c =
     let l = call.before.before in
     let a = l.before.before.before.args in
     let fails : place_fits a.parent a.children.count a.children.nodes l.loop-k.k ≡ false =
-    sym call.word_fits.ensures ∙ was-false call.word_fits.result c.if-not-word_fits.true-raw in
+    sym call.word_fits.ensures ∙ c.if-not-word_fits.true in
     sym (every-fails max_children (place_fits a.parent a.children.count a.children.nodes) l.loop-k.k (omega arith) fails)
 
 pub loop-k-preserved : goal.loop-k-preserved
@@ -32,7 +31,7 @@ loop-k-preserved c =
     let l = call.before.before in
     let a = l.before.before.before.args in
     let fits : place_fits a.parent a.children.count a.children.nodes l.loop-k.k ≡ true =
-    sym call.word_fits.ensures ∙ was-true call.word_fits.result c.if-not-word_fits.false-raw in
+    sym call.word_fits.ensures ∙ c.if-not-word_fits.false in
     (omega arith, rw (add-one l.loop-k.k, fits, l.loop-k.invariant.1))
 
 pub returns : goal.returns

@@ -1,6 +1,6 @@
 use native.Mathlib.Omega.{arith}
 use borrow.Author.Rules.{rules}
-use Rattle.masks.proofs.Least.{search-start, search-next, search-found, search-done}
+use Rattle.masks.proofs.Least.{search-start, search-next, first-found, first-none}
 use Rattle.table.specs.Words.{malformed}
 use Rattle.table.proofs.words.first_malformed.Goals as goal
 
@@ -11,7 +11,7 @@ pub returns-then-is_malformed : goal.returns-then-is_malformed
 returns-then-is_malformed c =
     let l = c.before.before.before in
     let x = l.before.before.args in
-    search-found (malformed x.variables x.words.now) x.n l.loop-i.i (omega arith) l.loop-i.invariant.1
+    first-found (malformed x.variables x.words.now) x.n l.loop-i.i (omega arith) l.loop-i.invariant.1
     c.before.is_malformed.ensures c.if-is_malformed.true
 
 pub loop-i-preserved : goal.loop-i-preserved
@@ -27,4 +27,4 @@ pub returns : goal.returns
 returns c =
     let l = c.before in
     let x = l.before.before.args in
-    search-done (malformed x.variables x.words.now) x.n l.loop-i.i (omega arith) (omega arith) l.loop-i.invariant.1
+    first-none (malformed x.variables x.words.now) x.n l.loop-i.i (omega arith) (omega arith) l.loop-i.invariant.1

@@ -4,6 +4,7 @@ use mathlib.Core.Path.{◌≡◌, refl, sym, ap, ◌∙◌}
 use mathlib.Core.Bool.{Bool, true, false, ◌&&◌, ◌||◌, cond}
 use mathlib.Core.Logic.{◌⊎◌, inl, inr, ◌≢◌}
 use mathlib.Core.List.{List, [], ◌∷◌}
+use native.Mathlib.Omega.{arith}
 use lib.Dec.{eqb, ltb, leb}
 use borrow.Author.Tests.{eq-eqb, ne_eqb, le-leb, lt-leb}
 use Rattle.masks.specs.Mask.{put}
@@ -16,9 +17,10 @@ use Rattle.lines.specs.Reading.{match_then, word_then, number_then, mapped, read
 use Rattle.lines.proofs.Local.{word_read, read_step}
 use Rattle.text_assignment.specs.Line.{member_choices, line_format, mask_in, read_assignment, State, begun, members, member}
 use Rattle.text_assignment.specs.Line.{closed}
+use Rattle.text_assignment.specs.Answers.{assignment_of}
 use Rattle.text_assignment.specs.Members.{variable_of, member_at, closed_at}
-use Rattle.text_assignment.specs.declared.assignment.Member.{Member}
-use Rattle.text_assignment.specs.declared.assignment.Member.TheVariants.{Close, Next, Wrong, Unordered}
+use Rattle.text_assignment.specs.declared.assignment.AssignmentFault.{AssignmentFault}
+use Rattle.text_assignment.specs.declared.assignment.AssignmentFault.TheVariants.{Sizes, Shape, Order}
 use Rattle.text_assignment.proofs.Lines.{line-formed}
 use Rattle.std.specs.Prelude.{Option, Some, None, Result, Ok, Err}
 use Rattle.std.specs.Prelude.{is_some}
@@ -79,22 +81,22 @@ module _ (s : List ℕ) (N : ℕ) where
         sym (ap (mapped mask_in) (picks ∙ ap (word_then (line_format N) s on at) (unpicked m n)))
 
   -- ---- what follows a member that the code has read
-  abbrev pub member_then : ℕ → Member → Outcome ℕ
-  member_then mask (Close p) = closed_at s p mask
-  member_then mask (Next v p) = rest (members (v + 1) (put mask v true)) p
-  member_then mask (Wrong p) = refused 51 p
-  member_then mask (Unordered p) = refused 52 p
+  abbrev pub member_then : ℕ → ℕ → Result (Option (ℕ × ℕ)) AssignmentFault → Outcome ℕ
+  member_then mask at (Ok None) = closed_at s (at + 1) mask
+  member_then mask at (Ok (Some (v, p))) = rest (members (v + 1) (put mask v true)) p
+  member_then mask at (Err e) = assignment_of (Err e)
 
   module _ (low mask : ℕ) where
     abbrev value : ℕ → Option (ℕ × ℕ) → Outcome State
     value = number_then (line_format N) s on (λ v. leb low v && ltb v N) 52 (λ v. members (v + 1) (put mask v true))
 
-    value-is : (at : ℕ) (x : Option (ℕ × ℕ)) → member_then mask (variable_of s N low at x) ≡ mapped mask_in (value at x)
-    value-is at None = refl
-    value-is at (Some (v, p)) = by (same? (byte_at s p) 41) (same? (byte_at s p) 32) (leb low v && ltb v N)
+    value-is : (start at : ℕ) (x : Option (ℕ × ℕ)) → member_then mask start (variable_of s N low at x) ≡ mapped mask_in (value at x)
+    value-is start at None = refl
+    value-is start at (Some (v, p)) = by (same? (byte_at s p) 41) (same? (byte_at s p) 32) (leb low v && ltb v N)
       where
         by : (byte_at s p ≡ 41) ⊎ (byte_at s p ≢ 41) → (byte_at s p ≡ 32) ⊎ (byte_at s p ≢ 32) → (t : Bool)
-            → member_then mask (cond (eqb (byte_at s p) 32 || eqb (byte_at s p) 41) (cond t (Next v p) (Unordered p)) (Wrong p))
+            → member_then mask start
+            (cond (eqb (byte_at s p) 32 || eqb (byte_at s p) 41) (cond t (Ok (Some (v, p))) (Err (Order p))) (Err (Shape p)))
             ≡ mapped mask_in
             (cond t (on (members (v + 1) (put mask v true)) p)
             (cond (is_some (pick (member_choices (v + 1) (put mask v true)) (byte_at s p))) (refused 52 p) (refused 51 p)))
@@ -107,16 +109,16 @@ module _ (s : List ℕ) (N : ℕ) where
         by (inr m) (inr n) false =
             rw (ne_eqb (byte_at s p) 32 n, ne_eqb (byte_at s p) 41 m, unpicked (v + 1) (put mask v true) p m n)
 
-    pub turn : (at : ℕ) → member_then mask (member_at s N low at) ≡ rest (members low mask) at
+    pub turn : (at : ℕ) → member_then mask at (member_at s N low at) ≡ rest (members low mask) at
     unfolding member_at
     turn at = by (same? (byte_at s at) 41) (same? (byte_at s at) 32)
       where
         by : (byte_at s at ≡ 41) ⊎ (byte_at s at ≢ 41) → (byte_at s at ≡ 32) ⊎ (byte_at s at ≢ 32)
-            → member_then mask (member_at s N low at) ≡ rest (members low mask) at
+            → member_then mask at (member_at s N low at) ≡ rest (members low mask) at
         by (inl e) n = rw (eq-eqb (byte_at s at) 41 e) (close-is low mask at e)
         by (inr m) (inl e) =
             rw (ne_eqb (byte_at s at) 41 m, eq-eqb (byte_at s at) 32 e)
-            (value-is (at + 1) (number_at s (at + 1)) ∙ sym (ap (mapped mask_in) (space-is low mask at e)))
+            (value-is at (at + 1) (number_at s (at + 1)) ∙ sym (ap (mapped mask_in) (space-is low mask at e)))
         by (inr m) (inr n) = rw (ne_eqb (byte_at s at) 41 m, ne_eqb (byte_at s at) 32 n) (other-is low mask at m n)
 
   -- ---- the beginning of the line
@@ -141,10 +143,7 @@ module _ (s : List ℕ) (N : ℕ) where
     unfolding read_assignment
     line-starts x e = rw (le-leb 1 N l, le-leb N 40 h) (begins x (sym e))
 
-  pub too_few : N < 1 → refused 21 0 ≡ read_assignment s N
+  pub misfits : (N < 1) ⊎ ((1 ≤ N) × (40 < N)) → refused 21 0 ≡ read_assignment s N
   unfolding read_assignment
-  too_few h = rw (lt-leb 1 N h)
-
-  pub too_many : 1 ≤ N → 40 < N → refused 21 0 ≡ read_assignment s N
-  unfolding read_assignment
-  too_many l h = rw (le-leb 1 N l, lt-leb N 40 h)
+  misfits (inl h) = rw (lt-leb 1 N h)
+  misfits (inr h) = rw (le-leb 1 N h.0, lt-leb N 40 h.1)

@@ -4,7 +4,6 @@ use mathlib.Core.Path.{◌≡◌, refl, sym, ap, ◌∙◌}
 use mathlib.Core.Bool.{Bool, true, false, ◌&&◌, ◌||◌, cond}
 use mathlib.Core.Logic.{◌⊎◌, inl, inr, ◌≢◌}
 use mathlib.Core.List.{List, [], ◌∷◌}
-use native.Mathlib.Omega.{arith}
 use lib.Dec.{eqb, ltb, leb}
 use borrow.Author.Tests.{eq-eqb, ne_eqb, le-leb, lt-leb}
 use Rattle.masks.specs.Mask.{put}
@@ -20,7 +19,7 @@ use Rattle.text_assignment.specs.Line.{closed}
 use Rattle.text_assignment.specs.Answers.{assignment_of}
 use Rattle.text_assignment.specs.Members.{variable_of, member_at, closed_at}
 use Rattle.text_assignment.specs.declared.assignment.AssignmentFault.{AssignmentFault}
-use Rattle.text_assignment.specs.declared.assignment.AssignmentFault.TheVariants.{Sizes, Shape, Order}
+use Rattle.text_assignment.specs.declared.assignment.AssignmentFault.TheVariants.{Shape, Order}
 use Rattle.text_assignment.proofs.Lines.{line-formed}
 use Rattle.std.specs.Prelude.{Option, Some, None, Result, Ok, Err}
 use Rattle.std.specs.Prelude.{is_some}

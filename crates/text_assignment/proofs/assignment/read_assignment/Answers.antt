@@ -1,6 +1,5 @@
 -- `text_assignment::assignment::read_assignment` meets its contract.
-use Rattle.std.proofs.Common.{rules, refl}
-use Rattle.text_assignment.specs.Line.{read_assignment}
+use Rattle.std.proofs.Common.{◌≡◌, Ok, rules, refl, sym, ◌∙◌}
 use Rattle.text_assignment.proofs.Members.{line-starts, misfits}
 use Rattle.text_assignment.proofs.assignment.read_assignment.Goals as goal
 
@@ -12,6 +11,7 @@ returns-in_err-p c =
     let e = line-starts c.args.line.now c.args.variables c.if-variables-lt1.false c.if-variables-gt-MAX_VARIABLES.false _ refl in search rules
 
 pub returns : goal.returns
-unfolding read_assignment
 returns c =
-    let e = line-starts c.args.line.now c.args.variables c.if-variables-lt1.false c.if-variables-gt-MAX_VARIABLES.false _ refl in search rules
+    let i : c.match_at.result ≡ Ok c.in_ok-p.p = search rules in
+    c.members.ensures
+    ∙ line-starts _ _ c.if-variables-lt1.false c.if-variables-gt-MAX_VARIABLES.false _ (sym i ∙ c.match_at.ensures.0)

@@ -20,13 +20,14 @@ use Rattle.text.specs.declared.answer.Fault.{Fault}
 use Rattle.lines.specs.Format.{choice, first, pick, starts, Choice, words, number}
 use Rattle.lines.specs.Reading.{match_then, word_then, number_then, read_piece, end_or, read_from, mapped}
 use Rattle.lines.proofs.Local.{word_read, read_step}
-use Rattle.text_script.specs.Answers.{script_outcome, Told}
-use Rattle.text_script.specs.Lines.{line_then, Reads, ended_by, unfit_as, LineRuns}
+use Rattle.text_script.specs.Answers.{Told}
+use Rattle.text_script.specs.Faults.{refusal_of, fault_of}
+use Rattle.text_script.specs.Lines.{line_then, Reads, ended_by, LineRuns}
 use Rattle.text_script.specs.Script.{with, line_choices, opened_choices, sign_choices, script_piece, script_ends, script_format, State}
 use Rattle.text_script.specs.Script.{steps_in, room_for, read_steps, line, opened, setting, set_to, sign, dropping, dropped}
-use Rattle.text_script.specs.declared.line.LineReading.{LineReading}
-use Rattle.text_script.specs.declared.script.Script.{Script}
-use Rattle.text_script.specs.declared.script.ScriptReading.{ScriptReading}
+use Rattle.text_script.specs.declared.answer.Script.{Script}
+use Rattle.text_script.specs.declared.answer.ScriptFault.{ScriptFault}
+use Rattle.text_script.specs.declared.answer.ScriptFault.TheVariants.{Sizes, Shape, Variable}
 use Rattle.text_script.proofs.Lines.{script-formed}
 use Rattle.std.specs.Prelude.{Option, Some, None, Result, Ok, Err}
 use Rattle.text.specs.declared.answer.Misread.{Misread}
@@ -94,7 +95,7 @@ module _ (s : List ℕ) (N room : ℕ) where
     pub follow-goes : (v : ℕ) → script_ends (next v) ≡ false
 
   abbrev RangedThen : List Step → State → (ℕ → State) → ℕ → ℕ → Result (ℕ × ℕ) Misread → Type 0
-  RangedThen es q next b at (Err e) = line_then s N room es (unfit_as e.0 e.1) ≡ on q at
+  RangedThen es q next b at (Err m) = refusal_of (fault_of m) ≡ on q at
   RangedThen es q next b at (Ok (v, p)) = (byte_at s p ≡ b) × (on (next v) p ≡ on q at)
 
   module _ (es : List Step) (q : State) (next after : ℕ → State) (w : List ℕ) (h : Asks q next after w) (at : ℕ) where
@@ -211,47 +212,31 @@ module _ (s : List ℕ) (N room : ℕ) where
         ∙ word-is at (c ∷ []) c (Ok (at + 1)) (rw e) (rw e)))
 
 -- ---- the same, whatever the room and the steps before
-later-runs : (s : List ℕ) (at p : ℕ) (r : LineReading) → at ≤ p → LineRuns s p r → LineRuns s at r
-later-runs s at p (LineReading.Step v a q) l (m, n) = (omega arith, n)
-later-runs s at p (LineReading.Shape q) l h = tt
-later-runs s at p (LineReading.Variable q) l h = tt
-
-unfit-runs : (s : List ℕ) (at p : ℕ) (f : Fault) → LineRuns s at (unfit_as f p)
-unfit-runs s at p Fault.Length = tt
-unfit-runs s at p Fault.Shape = tt
-unfit-runs s at p Fault.Range = tt
-unfit-runs s at p Fault.Reference = tt
-unfit-runs s at p Fault.Depth = tt
-unfit-runs s at p Fault.Nodes = tt
+later-runs : (s : List ℕ) (at p : ℕ) (r : Result (Step × ℕ) ScriptFault) → at ≤ p → LineRuns s p r → LineRuns s at r
+later-runs s at p (Ok (t, q)) l (m, n) = (omega arith, n)
+later-runs s at p (Err e) l h = tt
 
 module _ (s : List ℕ) (N at : ℕ) where
   -- the sign and the end of the line
   module _ (v : ℕ) {c : ℕ} (b : c ≡ byte_at s at) where
-    pub yes-reads : {r : LineReading} → c ≡ 121 → r ≡ ended_by v 1 (match_at s at (ascii "yes)\n")) → Reads s N (λ es. sign es v) at r
+    pub yes-reads : {r : Result (Step × ℕ) ScriptFault} → c ≡ 121 → r ≡ ended_by v 1 (match_at s at (ascii "yes)\n")) → Reads s N (λ es. sign es v) at r
     yes-reads e d room es = ap (line_then s N room es) d ∙ yes-is s N room es v at (sym b ∙ e)
 
-    pub no_reads : {r : LineReading} → c ≡ 110 → r ≡ ended_by v 0 (match_at s at (ascii "no)\n")) → Reads s N (λ es. sign es v) at r
+    pub no_reads : {r : Result (Step × ℕ) ScriptFault} → c ≡ 110 → r ≡ ended_by v 0 (match_at s at (ascii "no)\n")) → Reads s N (λ es. sign es v) at r
     no_reads e d room es = ap (line_then s N room es) d ∙ no-is s N room es v at (sym b ∙ e)
 
-    pub unsigned_reads : c ≢ 121 → c ≢ 110 → Reads s N (λ es. sign es v) at (LineReading.Shape at)
+    pub unsigned_reads : c ≢ 121 → c ≢ 110 → Reads s N (λ es. sign es v) at (Err (Shape at))
     unsigned_reads m n room es = unsigned s N room es v at (λ e. m (b ∙ e)) (λ e. n (b ∙ e))
 
   -- ---- the variable of a line; a reading, and where it stands
-  abbrev Line : (List Step → State) → LineReading → Type 0
+  abbrev Line : (List Step → State) → Result (Step × ℕ) ScriptFault → Type 0
   Line q r = Reads s N q at r × LineRuns s at r
 
-  unfit-line : (q : List Step → State) (r : LineReading) (f : Fault) (p : ℕ) → r ≡ unfit_as f p
-      → ((room : ℕ) (es : List Step) → line_then s N room es (unfit_as f p) ≡ read_from (script_format N room) s (q es) at) → Line q r
-  unfit-line q r f p d h =
-      (λ room es. ap (line_then s N room es) d ∙ h room es, subst (LineRuns s at) (sym d) (unfit-runs s at p f))
+  pub set-unfit : (m : Misread) → Err m ≡ ranged_at s at 0 N 32 Fault.Range → Line setting (Err (fault_of m))
+  set-unfit m e =
+      ((λ room es. ranged-is s N room es (setting es) (set_to es) (sign es) (ascii " ") (set-asks s N room es) at (Err m) e), tt)
 
-  pub set-unfit : {r : LineReading} (f : Fault) (p : ℕ) → misread f p ≡ ranged_at s at 0 N 32 Fault.Range → r ≡ unfit_as f p
-      → Line setting r
-  set-unfit {r} f p e d =
-      unfit-line setting r f p d
-      (λ room es. ranged-is s N room es (setting es) (set_to es) (sign es) (ascii " ") (set-asks s N room es) at (misread f p) e)
-
-  pub set-inside : (r : LineReading) (v p : ℕ) → Ok (v, p) ≡ ranged_at s at 0 N 32 Fault.Range → RangedRuns s at N (Ok (v, p))
+  pub set-inside : (r : Result (Step × ℕ) ScriptFault) (v p : ℕ) → Ok (v, p) ≡ ranged_at s at 0 N 32 Fault.Range → RangedRuns s at N (Ok (v, p))
       → Reads s N (λ es. sign es v) (p + 1) r × LineRuns s (p + 1) r → Line setting r
   set-inside r v p e n (h, k) = (go, later-runs s at (p + 1) r (omega (arith, n.0)) k)
     where
@@ -260,14 +245,14 @@ module _ (s : List ℕ) (N at : ℕ) where
           let (b, i) = ranged-is s N room es (setting es) (set_to es) (sign es) (ascii " ") (set-asks s N room es) at (Ok (v, p)) e in
           h room es ∙ space-is s N room es v p b ∙ i
 
-  pub drop-unfit : {r : LineReading} (f : Fault) (p : ℕ) → misread f p ≡ ranged_at s at 0 N 41 Fault.Range → r ≡ unfit_as f p
-      → Line dropping r
-  drop-unfit {r} f p e d =
-      unfit-line dropping r f p d
-      (λ room es.
-      ranged-is s N room es (dropping es) (dropped es) (λ v. line (with es v 2)) (ascii ")\n") (drop-asks s N room es) at (misread f p) e)
+  pub drop-unfit : (m : Misread) → Err m ≡ ranged_at s at 0 N 41 Fault.Range → Line dropping (Err (fault_of m))
+  drop-unfit m e = (
+    (λ room es.
+        ranged-is s N room es (dropping es) (dropped es) (λ v. line (with es v 2)) (ascii ")\n") (drop-asks s N room es) at (Err m) e),
+    tt,
+  )
 
-  pub drop-inside : (r : LineReading) (v p : ℕ) → Ok (v, p) ≡ ranged_at s at 0 N 41 Fault.Range → RangedRuns s at N (Ok (v, p))
+  pub drop-inside : (r : Result (Step × ℕ) ScriptFault) (v p : ℕ) → Ok (v, p) ≡ ranged_at s at 0 N 41 Fault.Range → RangedRuns s at N (Ok (v, p))
       → (r ≡ ended_by v 2 (match_at s p (ascii ")\n"))) × LineRuns s p r → Line dropping r
   drop-inside r v p e n (d, k) = (go, later-runs s at p r (omega (arith, n.0)) k)
     where
@@ -279,47 +264,45 @@ module _ (s : List ℕ) (N at : ℕ) where
 
   -- ---- the word of a line
   module _ {c : ℕ} (b : c ≡ byte_at s at) where
-    pub set-differs : (p : ℕ) → c ≡ 115 → Err p ≡ match_at s at (ascii "set ") → Reads s N opened at (LineReading.Shape p)
+    pub set-differs : (p : ℕ) → c ≡ 115 → Err p ≡ match_at s at (ascii "set ") → Reads s N opened at (Err (Shape p))
     set-differs p e d room es = set_is s N room es at (sym b ∙ e) (Err p) d
 
-    pub set_past : (r : LineReading) (p : ℕ) → c ≡ 115 → Ok p ≡ match_at s at (ascii "set ") → MatchedRuns s at (Ok p)
+    pub set_past : (r : Result (Step × ℕ) ScriptFault) (p : ℕ) → c ≡ 115 → Ok p ≡ match_at s at (ascii "set ") → MatchedRuns s at (Ok p)
         → Reads s N setting p r × LineRuns s p r → Line opened r
     set_past r p e d m (h, k) = (λ room es. h room es ∙ set_is s N room es at (sym b ∙ e) (Ok p) d, later-runs s at p r m.0 k)
 
-    pub drop-differs : (p : ℕ) → c ≡ 100 → Err p ≡ match_at s at (ascii "drop ") → Reads s N opened at (LineReading.Shape p)
+    pub drop-differs : (p : ℕ) → c ≡ 100 → Err p ≡ match_at s at (ascii "drop ") → Reads s N opened at (Err (Shape p))
     drop-differs p e d room es = drop-is s N room es at (sym b ∙ e) (Err p) d
 
-    pub drop_past : (r : LineReading) (p : ℕ) → c ≡ 100 → Ok p ≡ match_at s at (ascii "drop ") → MatchedRuns s at (Ok p)
+    pub drop_past : (r : Result (Step × ℕ) ScriptFault) (p : ℕ) → c ≡ 100 → Ok p ≡ match_at s at (ascii "drop ") → MatchedRuns s at (Ok p)
         → Reads s N dropping p r × LineRuns s p r → Line opened r
     drop_past r p e d m (h, k) = (λ room es. h room es ∙ drop-is s N room es at (sym b ∙ e) (Ok p) d, later-runs s at p r m.0 k)
 
-    pub other-reads : c ≢ 115 → c ≢ 100 → Reads s N opened at (LineReading.Shape at)
+    pub other-reads : c ≢ 115 → c ≢ 100 → Reads s N opened at (Err (Shape at))
     other-reads m n room es = other-is s N room es at (λ e. m (b ∙ e)) (λ e. n (b ∙ e))
 
 -- ---- what the code answers
-pub told-steps : (room : ℕ) (r : Script) (o : Outcome State) (es : List Step) → answered (line es) ≡ o
-    → (script_outcome r.reading ≡ answered (length es)) × (r.count ≡ length es) × (r.columns ≡ columns es) × (length es ≤ room)
-    → Told room r (mapped steps_in o)
-told-steps room r o es e h = subst (λ (z : Outcome State). Told room r (mapped steps_in z)) e h
+pub told-steps : (room : ℕ) (r : Result Script ScriptFault) (o : Outcome State) (es : List Step) → answered (line es) ≡ o
+    → r ≡ Ok (record { columns = columns es; count = length es }) → length es ≤ room → Told room r (mapped steps_in o)
+told-steps room r o es e h l = subst (λ (z : Outcome State). Told room r (mapped steps_in z)) e (h, l)
 
-pub told-refused : (room : ℕ) (r : Script) (o : Outcome State) (k p : ℕ) → refused k p ≡ o → script_outcome r.reading ≡ refused k p
-    → r.count ≡ 0 → Told room r (mapped steps_in o)
-told-refused room r o k p e h n = subst (λ (z : Outcome State). Told room r (mapped steps_in z)) e (h, n)
+pub told-refused : (room : ℕ) (f : ScriptFault) (o : Outcome State) → refusal_of f ≡ o → Told room (Err f) (mapped steps_in o)
+told-refused room f o e = subst (λ (z : Outcome State). Told room (Err f) (mapped steps_in z)) e (told f)
+  where
+    told : (f : ScriptFault) → Told room (Err f) (mapped steps_in (refusal_of f))
+    told Sizes = refl
+    told (Shape p) = refl
+    told (Variable p) = refl
 
-module _ (s : List ℕ) (N l : ℕ) (r : Script) where
-  pub too_few : N < 1 → (r.count ≡ 0) × (r.reading ≡ ScriptReading.Sizes) → Told (room_for l) r (read_steps s N l)
+module _ (s : List ℕ) (N l : ℕ) where
+  pub misfits : (N < 1) ⊎ ((1 ≤ N) × (40 < N)) → Told (room_for l) (Err Sizes) (read_steps s N l)
   unfolding read_steps
-  too_few h (n, e) = rw (lt-leb 1 N h) (ap script_outcome e, n)
+  misfits (inl h) = rw (lt-leb 1 N h) refl
+  misfits (inr h) = rw (le-leb 1 N h.0, lt-leb N 40 h.1) refl
 
-  module _ (low : 1 ≤ N) where
-    pub too_many : 40 < N → (r.count ≡ 0) × (r.reading ≡ ScriptReading.Sizes) → Told (room_for l) r (read_steps s N l)
-    unfolding read_steps
-    too_many h (n, e) = rw (le-leb 1 N low, lt-leb N 40 h) (ap script_outcome e, n)
-
-    module _ (high : N ≤ 40) where
-      pub reads_all : (room : ℕ) → room ≡ room_for l → Told room r (mapped steps_in (read_from (script_format N room) s (line []) 0))
-          → Told (room_for l) r (read_steps s N l)
-      unfolding read_steps
-      reads_all room e h =
-          rw (le-leb 1 N low, le-leb N 40 high)
-          (subst (λ (z : ℕ). Told z r (mapped steps_in (read_from (script_format N z) s (line []) 0))) e h)
+  pub reads_all : (r : Result Script ScriptFault) → 1 ≤ N → N ≤ 40 → (room : ℕ) → room ≡ room_for l
+      → Told room r (mapped steps_in (read_from (script_format N room) s (line []) 0)) → Told (room_for l) r (read_steps s N l)
+  unfolding read_steps
+  reads_all r low high room e h =
+      rw (le-leb 1 N low, le-leb N 40 high)
+      (subst (λ (z : ℕ). Told z r (mapped steps_in (read_from (script_format N z) s (line []) 0))) e h)

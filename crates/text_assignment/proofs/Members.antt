@@ -19,7 +19,7 @@ use Rattle.text_assignment.specs.Line.{closed}
 use Rattle.text_assignment.specs.Answers.{assignment_of}
 use Rattle.text_assignment.specs.Members.{variable_of, member_at, closed_at}
 use Rattle.text_assignment.specs.declared.assignment.AssignmentFault.{AssignmentFault}
-use Rattle.text_assignment.specs.declared.assignment.AssignmentFault.TheVariants.{Shape, Order}
+use Rattle.text_assignment.specs.declared.assignment.AssignmentFault.TheVariants.{LineShape, LineOrder}
 use Rattle.text_assignment.proofs.Lines.{line-formed}
 use Rattle.std.specs.Prelude.{Option, Some, None, Result, Ok, Err}
 use Rattle.std.specs.Prelude.{is_some}
@@ -95,7 +95,7 @@ module _ (s : List ℕ) (N : ℕ) where
       where
         by : (byte_at s p ≡ 41) ⊎ (byte_at s p ≢ 41) → (byte_at s p ≡ 32) ⊎ (byte_at s p ≢ 32) → (t : Bool)
             → member_then mask start
-            (cond (eqb (byte_at s p) 32 || eqb (byte_at s p) 41) (cond t (Ok (Some (v, p))) (Err (Order p))) (Err (Shape p)))
+            (cond (eqb (byte_at s p) 32 || eqb (byte_at s p) 41) (cond t (Ok (Some (v, p))) (Err (LineOrder p))) (Err (LineShape p)))
             ≡ mapped mask_in
             (cond t (on (members (v + 1) (put mask v true)) p)
             (cond (is_some (pick (member_choices (v + 1) (put mask v true)) (byte_at s p))) (refused 52 p) (refused 51 p)))

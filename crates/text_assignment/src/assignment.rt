@@ -17,9 +17,9 @@ pub enum AssignmentFault {
     // 21: a number of variables outside its range
     Sizes,
     // 51: wrong shape, at this place
-    Shape(usize),
+    LineShape(usize),
     // 52: a variable out of range or out of order, at this place
-    Order(usize),
+    LineOrder(usize),
 }
 
 // After a space a variable from low up to below `variables`, and the place past it; or none, at the closing bracket.
@@ -37,17 +37,17 @@ fn next_member(
         return Ok(None);
     }
     if c != SPACE {
-        return Err(AssignmentFault::Shape(at));
+        return Err(AssignmentFault::LineShape(at));
     }
     let Some((v, p)) = number(s, at + 1) else {
-        return Err(AssignmentFault::Shape(at + 1));
+        return Err(AssignmentFault::LineShape(at + 1));
     };
     let d = byte_at(s, p);
     if d != SPACE && d != CLOSE {
-        return Err(AssignmentFault::Shape(p));
+        return Err(AssignmentFault::LineShape(p));
     }
     if v < low || variables <= v {
-        return Err(AssignmentFault::Order(p));
+        return Err(AssignmentFault::LineOrder(p));
     }
     Ok(Some((v, p)))
 }
@@ -58,10 +58,10 @@ fn closed(s: &[u8], at: usize, mask: u64) -> Result<u64, AssignmentFault>
     ensures { assignment_of result ≡ closed_at s.now at mask }
 {
     if byte_at(s, at) != NEWLINE {
-        return Err(AssignmentFault::Shape(at));
+        return Err(AssignmentFault::LineShape(at));
     }
     if byte_at(s, at + 1) != END {
-        return Err(AssignmentFault::Shape(at + 1));
+        return Err(AssignmentFault::LineShape(at + 1));
     }
     Ok(mask)
 }
@@ -89,6 +89,6 @@ pub fn read_assignment(line: &[u8], variables: u32) -> Result<u64, AssignmentFau
     if variables < 1 || MAX_VARIABLES < variables {
         return Err(AssignmentFault::Sizes);
     }
-    let p = match_at(line, 0, b"(stow").map_err(AssignmentFault::Shape)?;
+    let p = match_at(line, 0, b"(stow").map_err(AssignmentFault::LineShape)?;
     members(line, variables, p)
 }

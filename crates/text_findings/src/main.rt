@@ -71,8 +71,8 @@ fn assignment(stdout: Stdout, line: &[u8], variables: u32) {
             print(stdout, &row, n);
         }
         Err(AssignmentFault::Sizes) => print_refusal(stdout, 21, 0),
-        Err(AssignmentFault::Shape(p)) => print_refusal(stdout, 51, p),
-        Err(AssignmentFault::Order(p)) => print_refusal(stdout, 52, p),
+        Err(AssignmentFault::LineShape(p)) => print_refusal(stdout, 51, p),
+        Err(AssignmentFault::LineOrder(p)) => print_refusal(stdout, 52, p),
     }
 }
 

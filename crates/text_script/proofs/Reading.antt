@@ -219,10 +219,12 @@ later-runs s at p (Err e) l h = tt
 module _ (s : List ℕ) (N at : ℕ) where
   -- the sign and the end of the line
   module _ (v : ℕ) {c : ℕ} (b : c ≡ byte_at s at) where
-    pub yes-reads : {r : Result (Step × ℕ) ScriptFault} → c ≡ 121 → r ≡ ended_by v 1 (match_at s at (ascii "yes)\n")) → Reads s N (λ es. sign es v) at r
+    pub yes-reads : {r : Result (Step × ℕ) ScriptFault} → c ≡ 121 → r ≡ ended_by v 1 (match_at s at (ascii "yes)\n"))
+        → Reads s N (λ es. sign es v) at r
     yes-reads e d room es = ap (line_then s N room es) d ∙ yes-is s N room es v at (sym b ∙ e)
 
-    pub no_reads : {r : Result (Step × ℕ) ScriptFault} → c ≡ 110 → r ≡ ended_by v 0 (match_at s at (ascii "no)\n")) → Reads s N (λ es. sign es v) at r
+    pub no_reads : {r : Result (Step × ℕ) ScriptFault} → c ≡ 110 → r ≡ ended_by v 0 (match_at s at (ascii "no)\n"))
+        → Reads s N (λ es. sign es v) at r
     no_reads e d room es = ap (line_then s N room es) d ∙ no-is s N room es v at (sym b ∙ e)
 
     pub unsigned_reads : c ≢ 121 → c ≢ 110 → Reads s N (λ es. sign es v) at (Err (Shape at))
@@ -236,7 +238,8 @@ module _ (s : List ℕ) (N at : ℕ) where
   set-unfit m e =
       ((λ room es. ranged-is s N room es (setting es) (set_to es) (sign es) (ascii " ") (set-asks s N room es) at (Err m) e), tt)
 
-  pub set-inside : (r : Result (Step × ℕ) ScriptFault) (v p : ℕ) → Ok (v, p) ≡ ranged_at s at 0 N 32 Fault.Range → RangedRuns s at N (Ok (v, p))
+  pub set-inside : (r : Result (Step × ℕ) ScriptFault) (v p : ℕ) → Ok (v, p) ≡ ranged_at s at 0 N 32 Fault.Range
+      → RangedRuns s at N (Ok (v, p))
       → Reads s N (λ es. sign es v) (p + 1) r × LineRuns s (p + 1) r → Line setting r
   set-inside r v p e n (h, k) = (go, later-runs s at (p + 1) r (omega (arith, n.0)) k)
     where
@@ -252,7 +255,8 @@ module _ (s : List ℕ) (N at : ℕ) where
     tt,
   )
 
-  pub drop-inside : (r : Result (Step × ℕ) ScriptFault) (v p : ℕ) → Ok (v, p) ≡ ranged_at s at 0 N 41 Fault.Range → RangedRuns s at N (Ok (v, p))
+  pub drop-inside : (r : Result (Step × ℕ) ScriptFault) (v p : ℕ) → Ok (v, p) ≡ ranged_at s at 0 N 41 Fault.Range
+      → RangedRuns s at N (Ok (v, p))
       → (r ≡ ended_by v 2 (match_at s p (ascii ")\n"))) × LineRuns s p r → Line dropping r
   drop-inside r v p e n (d, k) = (go, later-runs s at p r (omega (arith, n.0)) k)
     where

@@ -8,7 +8,8 @@ returns-then-variables-lt1 c = misfits _ _ c.then-variables-lt1.either
 
 pub returns-in_err-p : goal.returns-in_err-p
 returns-in_err-p c =
-    let e = line-starts c.args.line.now c.args.variables c.if-variables-lt1.false c.if-variables-gt-MAX_VARIABLES.false _ refl in search rules
+    let e = line-starts c.args.line.now c.args.variables c.if-variables-lt1.false c.if-variables-gt-MAX_VARIABLES.false _ refl in
+    search rules
 
 pub returns : goal.returns
 returns c =

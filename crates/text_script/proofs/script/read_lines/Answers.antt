@@ -66,7 +66,8 @@ pub returns-then-room-count : goal.returns-then-room-count
 returns-then-room-count c =
     let p = c.loop-columns.invariant.1 in
     told-refused _ _ _
-    (stuck_is _ _ _ _ _ _ c.loop-columns.invariant.0 p.counted c.byte_at-c.ensures c.if-c-eq-END.false c.then-room-count.either ∙ sym p.left)
+    (stuck_is _ _ _ _ _ _ c.loop-columns.invariant.0 p.counted c.byte_at-c.ensures c.if-c-eq-END.false c.then-room-count.either
+    ∙ sym p.left)
 
 pub overflow_add-at : goal.overflow_add-at
 overflow_add-at c = let l = more c.args.s.now c.loop-columns.at c.byte_at-c.result c.byte_at-c.ensures c.if-c-ne-OPEN.false in search rules
@@ -80,7 +81,8 @@ returns-in_err-step c =
     let p = c.loop-columns.invariant.1 in
     rw (e.1, e.2)
     (told-refused _ _ _
-    (follows _ _ _ _ _ c.loop-columns.invariant.0 (Err c.in_err-step.field-0.0) c.in_err-step.ensures.0 (omega (arith, p.counted, c.if-room-count.false))
+    (follows _ _ _ _ _ c.loop-columns.invariant.0 (Err c.in_err-step.field-0.0) c.in_err-step.ensures.0
+    (omega (arith, p.counted, c.if-room-count.false))
     c.byte_at-c.ensures c.if-c-ne-OPEN.false ∙ sym p.left))
 
 pub overflow_add-count : goal.overflow_add-count
@@ -98,6 +100,7 @@ loop-columns-preserved c =
     let h = c.in_ok-step.ensures in (
       with es _ _,
       goes_on _ _ _ _ _ _ _ _ _ es p c.if-room-count.false
-          (follows _ _ _ _ _ es (Ok (c.in_ok-step.step, c.in_ok-step.p)) h.0 (omega (arith, p.counted, c.if-room-count.false)) c.byte_at-c.ensures c.if-c-ne-OPEN.false)
+          (follows _ _ _ _ _ es (Ok (c.in_ok-step.step, c.in_ok-step.p)) h.0
+          (omega (arith, p.counted, c.if-room-count.false)) c.byte_at-c.ensures c.if-c-ne-OPEN.false)
           h.1.1 c.with_step-columns.ensures,
     )

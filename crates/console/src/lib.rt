@@ -3,22 +3,23 @@
 
 pub mod input;
 
-use std::io::{Print, Stderr, Stdout};
+use std::io;
+use std::io::{ErrorKind, Print, Stderr, Stdout};
 
-// Writes the first n bytes of a line to standard output: whether all of them went.
-pub fn write(stdout: Stdout, line: &[u8], n: usize) -> bool {
-    if n <= line.len() {
-        return stdout.write_all(&line[..n]).is_ok();
+// Writes the first n bytes of a line to standard output.
+pub fn write(stdout: Stdout, line: &[u8], n: usize) -> io::Result<()> {
+    if line.len() < n {
+        return Err(io::Error::from(ErrorKind::InvalidInput));
     }
-    false
+    stdout.write_all(&line[..n])
 }
 
 // The same where nobody asks whether it went.
 pub fn print(stdout: Stdout, line: &[u8], n: usize) {
-    write(stdout, line, n);
+    let _ = write(stdout, line, n);
 }
 
 // Writes a message to standard error.
 pub fn tell(stderr: Stderr, message: &[u8]) {
-    stderr.write_all(message).is_ok();
+    let _ = stderr.write_all(message);
 }

@@ -18,23 +18,25 @@ use Rattle.text.specs.Syntax.{decimal}
 use Rattle.text.proofs.FaultNumbers.{Numbered, numbered-append, numbered-unless, numbered-first}
 use Rattle.text.proofs.Readers.{value_not, same-value, same_number, up_to, wrong_first, fault-first, wrong-only, fault-only, Reader}
 use Rattle.text.proofs.Refusals.{bytes-append, decimal-bytes}
-use Rattle.lines.specs.Format.{pick, fits_word, fits_piece, fits, print_word, print_piece, print, last, faults_word, faults_piece, faults}
-use Rattle.lines.specs.Format.{Piece, Format, Picked, words, number, missing, picked}
+use Rattle.lines.specs.Format.{pick, fits_word, fits_piece, fits, print_word, print_piece}
+use Rattle.lines.specs.Format.{print, last, faults_word, faults_piece, faults, Choice}
+use Rattle.lines.specs.Format.{Piece, Format, words, number}
 use Rattle.lines.specs.Meaning.{LinesReadAs, Tells}
 use Rattle.lines.specs.Reading.{read_some, read_from, read_all, mapped, read_lines}
 use Rattle.lines.proofs.Local.{lines-local}
 use Rattle.lines.proofs.Printed.{AnswerIs, reads}
 use Rattle.lines.proofs.Viable.{Said, lines-said}
 use Rattle.lines.proofs.WellFormed.{IsWord, PieceOk, WellFormed, pick-has, word_bytes, decimal-word}
+use Rattle.std.specs.Prelude.{Option, Some, None}
 
 -- ---- the moves of a text
 module _ {Q : Type 0} (F : Format Q) (W : WellFormed F) where
   piece_bytes : (m : ℕ) (rest : Q → List ℕ) → ((q : Q) → Bytes (rest q)) → (y : Piece Q) → PieceOk F y → Bytes (print_piece F m rest y)
   piece_bytes m rest h (words cs) ok = by (pick cs m) refl
     where
-      by : (x : Picked Q) → pick cs m ≡ x → Bytes (print_word F rest x)
-      by missing e = tt
-      by (picked c) e =
+      by : (x : Option (Choice Q)) → pick cs m ≡ x → Bytes (print_word F rest x)
+      by None e = tt
+      by (Some c) e =
           bytes-append c.word (rest c.next) (word_bytes c.word (pick-has (λ c. IsWord c.word) cs m c ok e).0) (h c.next)
   piece_bytes m rest h (number test k next) ok = bytes-append (decimal m) (rest (next m)) (decimal-bytes m) (h (next m))
 
@@ -53,9 +55,9 @@ module _ {Q : Type 0} (F : Format Q) (W : WellFormed F) where
         → Numbered P (faults_piece F m at rest y)
     piece-numbered m at rest h (words cs) ok = by (pick cs m)
       where
-        by : (x : Picked Q) → Numbered P (faults_word F at rest x)
-        by missing = tt
-        by (picked c) = h c.next (at + length c.word)
+        by : (x : Option (Choice Q)) → Numbered P (faults_word F at rest x)
+        by None = tt
+        by (Some c) = h c.next (at + length c.word)
     piece-numbered m at rest h (number test k next) ok =
         let p : ℕ = at + length (decimal m) in
         numbered-append P (unless (test m) k p) (rest (next m) p) (numbered-unless P (test m) k p ok) (h (next m) p)
@@ -79,9 +81,9 @@ module _ {Q : Type 0} (F : Format Q) (W : WellFormed F) where
       → PieceOk F y → T (fits_piece F m ok y) → suc n ≤ length (print_piece F m rest y)
   piece-length m n rest ok h (words cs) w f = by (pick cs m) refl f
     where
-      by : (x : Picked Q) → pick cs m ≡ x → T (fits_word F ok x) → suc n ≤ length (print_word F rest x)
-      by missing e f = absurd f
-      by (picked c) e f =
+      by : (x : Option (Choice Q)) → pick cs m ≡ x → T (fits_word F ok x) → suc n ≤ length (print_word F rest x)
+      by None e f = absurd f
+      by (Some c) e f =
           word-length c.word (rest c.next) n (pick-has (λ c. IsWord c.word) cs m c w e).0 (h c.next f)
   piece-length m n rest ok h (number test k next) w f =
       word-length (decimal m) (rest (next m)) n (decimal-word m) (h (next m) (and_r (ltb m 10000) (ok (next m)) f))

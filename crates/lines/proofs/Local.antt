@@ -11,17 +11,14 @@ use lib.Seq.{take-add}
 use Rattle.table.specs.Outcome.{Outcome, answered, refused}
 use Rattle.text.specs.Read.{byte_at, digit_at, number_at, match_at}
 use Rattle.text.specs.Syntax.{decimal}
-use Rattle.text.specs.declared.head.Matched.{Matched}
-use Rattle.text.specs.declared.head.Matched.TheVariants.{Past, Differs}
-use Rattle.text.specs.declared.number.Numeral.{Numeral}
-use Rattle.text.specs.declared.number.Numeral.TheVariants.{Value, Missing}
 use Rattle.text.proofs.Locality.{SameTo, LocalAnswer, numeral_at, number-loc, match-loc, refused-loc, accepted-loc, if-answer}
 use Rattle.text.proofs.Locality.{bind-answer, byte-answer}
 use Rattle.text.proofs.Spans.{Span, MatchSaid, match-said, NumberSaid, number-said}
 use Rattle.text.proofs.Words.{matched_at}
-use Rattle.lines.specs.Format.{pick, starts, Choice, Piece, Format, Picked, words, number, missing, picked}
+use Rattle.lines.specs.Format.{pick, starts, Choice, Piece, Format, words, number}
 use Rattle.lines.specs.Reading.{match_then, word_then, number_then, read_piece, end_or, read_some, read_from, read_all}
 use Rattle.lines.proofs.WellFormed.{IsWord, Each, PieceOk, WellFormed, pick-has, no_end, word_bytes, decimal-word}
+use Rattle.std.specs.Prelude.{Option, Some, None, Result, Ok, Err}
 
 module _ {Q : Type 0} where
   same : Outcome Q → Outcome Q
@@ -29,26 +26,26 @@ module _ {Q : Type 0} where
 
 -- ---- a refusal depends on the bytes up to its place
 module _ {Q : Type 0} (F : Format Q) (s : List ℕ) where
-  match-then : (X : List ℕ → ℕ → Outcome Q) → ((p : ℕ) → LocalAnswer same s (λ z. X z p) p) → (x : Matched)
+  match-then : (X : List ℕ → ℕ → Outcome Q) → ((p : ℕ) → LocalAnswer same s (λ z. X z p) p) → (x : Result ℕ ℕ)
       → LocalAnswer same s (λ z. match_then F z (X z) x) (matched_at x)
   unfolding same
-  match-then X k (Past p) = k p
-  match-then X k (Differs p) = refused-loc same s (refused F.shape p) F.shape p p refl (omega arith)
+  match-then X k (Ok p) = k p
+  match-then X k (Err p) = refused-loc same s (refused F.shape p) F.shape p p refl (omega arith)
 
-  word-then : (X : List ℕ → Q → ℕ → Outcome Q) → ((q : Q) (p : ℕ) → LocalAnswer same s (λ z. X z q p) p) → (at : ℕ) (x : Picked Q)
+  word-then : (X : List ℕ → Q → ℕ → Outcome Q) → ((q : Q) (p : ℕ) → LocalAnswer same s (λ z. X z q p) p) → (at : ℕ) (x : Option (Choice Q))
       → LocalAnswer same s (λ z. word_then F z (X z) at x) at
   unfolding same
-  word-then X k at missing = refused-loc same s (refused F.shape at) F.shape at at refl (omega arith)
-  word-then X k at (picked c) =
+  word-then X k at None = refused-loc same s (refused F.shape at) F.shape at at refl (omega arith)
+  word-then X k at (Some c) =
       bind-answer same s matched_at (λ z. match_at z at c.word) (λ z x. match_then F z (X z c.next) x) at
       (match-loc s c.word at) (match-then (λ z. X z c.next) (k c.next))
 
   number-then : (X : List ℕ → Q → ℕ → Outcome Q) → ((q : Q) (p : ℕ) → LocalAnswer same s (λ z. X z q p) p)
-      → (test : ℕ → Bool) (k : ℕ) (next : ℕ → Q) (at : ℕ) (x : Numeral)
+      → (test : ℕ → Bool) (k : ℕ) (next : ℕ → Q) (at : ℕ) (x : Option (ℕ × ℕ))
       → LocalAnswer same s (λ z. number_then F z (X z) test k next at x) (numeral_at at x)
   unfolding same
-  number-then X h test k next at Missing = refused-loc same s (refused F.shape at) F.shape at at refl (omega arith)
-  number-then X h test k next at (Value v p) =
+  number-then X h test k next at None = refused-loc same s (refused F.shape at) F.shape at at refl (omega arith)
+  number-then X h test k next at (Some (v, p)) =
       let wrong : List ℕ → Outcome Q = (λ z. cond (starts (byte_at z p) (F.piece (next v))) (refused k p) (refused F.shape p)) in
       if-answer same s (test v) (λ z. X z (next v) p) wrong p (h (next v) p)
       (byte-answer same s p (λ z c. cond (starts c (F.piece (next v))) (refused k p) (refused F.shape p))
@@ -95,7 +92,7 @@ span-past s at p (b ∷ x) h e = by (dec_lt at p)
         absurd (omega arith)
 
 -- no number stands at the end
-number-end : (s : List ℕ) (at : ℕ) → byte_at s at ≡ 256 → number_at s at ≡ Missing
+number-end : (s : List ℕ) (at : ℕ) → byte_at s at ≡ 256 → number_at s at ≡ None
 unfolding number_at digit_at
 number-end s at e = rw e
 
@@ -107,22 +104,22 @@ module _ {Q : Type 0} (F : Format Q) (W : WellFormed F) (s : List ℕ) where
   piece-end X at (number test k next) ok l = rw (number-end s at (get_or-eq_default s 256 l))
 
   module _ (X Y : Q → ℕ → Outcome Q) (at : ℕ) (h : (q : Q) (p : ℕ) → at < p → X q p ≡ Y q p) where
-    word_same : (cs : List (Choice Q)) → Each (λ c. IsWord c.word) cs → (x : Picked Q) → pick cs (byte_at s at) ≡ x
+    word_same : (cs : List (Choice Q)) → Each (λ c. IsWord c.word) cs → (x : Option (Choice Q)) → pick cs (byte_at s at) ≡ x
         → word_then F s X at x ≡ word_then F s Y at x
-    word_same cs ok missing e = refl
-    word_same cs ok (picked c) e = by (match_at s at c.word) (match-said s c.word at (word_bytes c.word w))
+    word_same cs ok None e = refl
+    word_same cs ok (Some c) e = by (match_at s at c.word) (match-said s c.word at (word_bytes c.word w))
       where
         w : IsWord c.word
         w = (pick-has (λ c. IsWord c.word) cs (byte_at s at) c ok e).0
 
-        by : (x : Matched) → MatchSaid s c.word at x → match_then F s (X c.next) x ≡ match_then F s (Y c.next) x
-        by (Past p) sp = h c.next p (span-past s at p c.word w sp)
-        by (Differs p) sp = refl
+        by : (x : Result ℕ ℕ) → MatchSaid s c.word at x → match_then F s (X c.next) x ≡ match_then F s (Y c.next) x
+        by (Ok p) sp = h c.next p (span-past s at p c.word w sp)
+        by (Err p) sp = refl
 
-    number_same : (test : ℕ → Bool) (k : ℕ) (next : ℕ → Q) (x : Numeral) → NumberSaid s at x
+    number_same : (test : ℕ → Bool) (k : ℕ) (next : ℕ → Q) (x : Option (ℕ × ℕ)) → NumberSaid s at x
         → number_then F s X test k next at x ≡ number_then F s Y test k next at x
-    number_same test k next Missing n = refl
-    number_same test k next (Value v p) n =
+    number_same test k next None n = refl
+    number_same test k next (Some (v, p)) n =
         ap
         (λ (z : Outcome Q). cond (test v) z (cond (starts (byte_at s p) (F.piece (next v))) (refused k p) (refused F.shape p)))
         (h (next v) p (span-past s at p (decimal v) (decimal-word v) n.1))
@@ -144,8 +141,8 @@ module _ {Q : Type 0} (F : Format Q) (W : WellFormed F) (s : List ℕ) where
       (W.pieces q))
 
   -- a word that stands at a place, or not the whole of it
-  pub word_read : (X : Q → ℕ → Outcome Q) (at : ℕ) (cs : List (Choice Q)) (c : Choice Q) (x : Matched)
-      → pick cs (byte_at s at) ≡ picked c → match_at s at c.word ≡ x
+  pub word_read : (X : Q → ℕ → Outcome Q) (at : ℕ) (cs : List (Choice Q)) (c : Choice Q) (x : Result ℕ ℕ)
+      → pick cs (byte_at s at) ≡ Some c → match_at s at c.word ≡ x
       → word_then F s X at (pick cs (byte_at s at)) ≡ match_then F s (X c.next) x
   word_read X at cs c x e d = ap (word_then F s X at) e ∙ ap (match_then F s (X c.next)) d
 

@@ -11,13 +11,13 @@ use Rattle.masks.proofs.Tests.{and_l, and_r, is_true, along}
 use Rattle.table.specs.Outcome.{Outcome, answered, refused}
 use Rattle.text.specs.Read.{byte_at, number_at}
 use Rattle.text.specs.Syntax.{decimal}
-use Rattle.text.specs.declared.number.Numeral.TheVariants.{Value}
 use Rattle.text.proofs.Pieces.{Here, byte, ended, past, matched, number as number_read}
-use Rattle.lines.specs.Format.{first, pick, is_picked, starts, fits_word, fits_piece, fits, print_word, print_piece, print, last_word}
-use Rattle.lines.specs.Format.{last_piece, last, faults_word, faults_piece, faults, Piece, Format, Picked, words, number, missing}
-use Rattle.lines.specs.Format.{picked}
+use Rattle.lines.specs.Format.{first, pick, starts, fits_word, fits_piece, fits, print_word, print_piece, print, last_word, Choice}
+use Rattle.lines.specs.Format.{last_piece, last, faults_word, faults_piece, faults, Piece, Format, words, number}
 use Rattle.lines.specs.Reading.{word_then, read_piece, read_some}
 use Rattle.lines.proofs.WellFormed.{IsWord, NoDigit, PieceOk, WellFormed, pick-has, word-cons, decimal-word}
+use Rattle.std.specs.Prelude.{Some}
+use Rattle.std.specs.Prelude.{Option, None, is_some}
 
 -- what is read: the first of the faults, or else the good answer
 abbrev pub AnswerIs : {A : Type 0} → List (ℕ × ℕ) → Outcome A → Outcome A → Type 0
@@ -44,10 +44,10 @@ module _ {Q : Type 0} (F : Format Q) (W : WellFormed F) where
     begins : (p : Piece Q) → PieceOk F p → Fits p → BeginsWith (λ b. b < 256) (text p)
     begins (words cs) ok f = by (pick cs m) refl f
       where
-        by : (x : Picked Q) → pick cs m ≡ x → T (fits_word F (λ r. fits F r ms) x)
+        by : (x : Option (Choice Q)) → pick cs m ≡ x → T (fits_word F (λ r. fits F r ms) x)
             → BeginsWith (λ b. b < 256) (print_word F (λ r. print F r ms) x)
-        by missing e f = absurd f
-        by (picked c) e f =
+        by None e f = absurd f
+        by (Some c) e f =
             let h = (pick-has (λ c. IsWord c.word) cs m c ok e).0 in
             let (b, r, i, j) = word-begins c.word (print F c.next ms) h in (b, r, i, j.0)
     begins (number test k next) ok f =
@@ -57,15 +57,15 @@ module _ {Q : Type 0} (F : Format Q) (W : WellFormed F) where
     follows : (p : Piece Q) → PieceOk F p → NoDigit p → Fits p → BeginsWith (λ b. (b < 48) × (starts b p ≡ true)) (text p)
     follows (words cs) ok nd f = by (pick cs m) refl f
       where
-        by : (x : Picked Q) → pick cs m ≡ x → T (fits_word F (λ r. fits F r ms) x)
-            → BeginsWith (λ b. (b < 48) × (is_picked (pick cs b) ≡ true)) (print_word F (λ r. print F r ms) x)
-        by missing e f = absurd f
-        by (picked c) e f =
+        by : (x : Option (Choice Q)) → pick cs m ≡ x → T (fits_word F (λ r. fits F r ms) x)
+            → BeginsWith (λ b. (b < 48) × (is_some (pick cs b) ≡ true)) (print_word F (λ r. print F r ms) x)
+        by None e f = absurd f
+        by (Some c) e f =
             let (h, i) = pick-has (λ c. IsWord c.word) cs m c ok e in
             let low : first c.word < 48 = (pick-has (λ c. first c.word < 48) cs m c nd e).0 in
             let (b, r, j, k) = word-begins c.word (print F c.next ms) h in
             let same : b ≡ m = k.1 ∙ i in
-            (b, r, j, (omega arith, ap (λ (z : ℕ). is_picked (pick cs z)) same ∙ ap is_picked e))
+            (b, r, j, (omega arith, ap (λ (z : ℕ). is_some (pick cs z)) same ∙ ap is_some e))
     follows (number test k next) ok nd f = absurd nd
 
   text-follows : (q : Q) → F.ends q ≡ false → NoDigit (F.piece q) → (ms : List ℕ) → T (fits F q ms)
@@ -86,11 +86,11 @@ module _ {Q : Type 0} (F : Format Q) (W : WellFormed F) where
     piece-reads : (p : Piece Q) → PieceOk F p → Fits m ms p → Here s at (text m ms p) → Reads p
     piece-reads (words cs) ok f h = by (pick cs m) refl f h
       where
-        by : (x : Picked Q) → pick cs m ≡ x → T (fits_word F (λ r. fits F r ms) x) → Here s at (print_word F (λ r. print F r ms) x)
+        by : (x : Option (Choice Q)) → pick cs m ≡ x → T (fits_word F (λ r. fits F r ms) x) → Here s at (print_word F (λ r. print F r ms) x)
             → AnswerIs (faults_word F at (λ r p. faults F r p ms) x) (answered (last_word F q (λ r. last F r ms) x))
             (word_then F s (read_some F s more) at (pick cs (byte_at s at)))
-        by missing e f h = absurd f
-        by (picked c) e f h =
+        by None e f h = absurd f
+        by (Some c) e f h =
             let (w, i) = pick-has (λ c. IsWord c.word) cs m c ok e in
             let after : List ℕ = print F c.next ms in
             let (b, r, j, k) = word-begins c.word after w in
@@ -116,7 +116,7 @@ module _ {Q : Type 0} (F : Format Q) (W : WellFormed F) where
         here : Here s (at + length (decimal m)) after
         here = past s at (decimal m) after h
 
-        value : number_at s at ≡ Value m (at + length (decimal m))
+        value : number_at s at ≡ Some (m, at + length (decimal m))
         value =
             let (b, r, j, l) = next-byte in
             number_read s m b r at l.0 small (subst (λ (z : List ℕ). Here s at (decimal m ++ z)) j h)

@@ -13,16 +13,13 @@ use Rattle.text.specs.Language.{IsOut, Begins}
 use Rattle.text.specs.Meaning.{Bytes}
 use Rattle.text.specs.Read.{byte_at, number_at, match_at}
 use Rattle.text.specs.Syntax.{decimal}
-use Rattle.text.specs.declared.head.Matched.{Matched}
-use Rattle.text.specs.declared.head.Matched.TheVariants.{Past, Differs}
-use Rattle.text.specs.declared.number.Numeral.{Numeral}
-use Rattle.text.specs.declared.number.Numeral.TheVariants.{Value, Missing}
 use Rattle.text.proofs.Readers.{up_to, at-shape, at_other}
 use Rattle.text.proofs.Spans.{one_byte, MatchSaid, match-said, NumberSaid, number-said, past_end}
-use Rattle.lines.specs.Format.{pick, is_picked, starts, fits, print, Choice, Piece, Format, Picked, words, number}
-use Rattle.lines.specs.Format.{missing, picked}
+use Rattle.lines.specs.Format.{pick, starts, fits, print, Choice, Piece, Format, words, number}
 use Rattle.lines.specs.Reading.{match_then, word_then, number_then, read_piece, end_or, read_some, read_from, read_all}
 use Rattle.lines.proofs.WellFormed.{IsWord, Each, PieceOk, WellFormed, pick-has, word-cons, word_bytes}
+use Rattle.std.specs.Prelude.{Option, Some, None, Result, Ok, Err}
+use Rattle.std.specs.Prelude.{is_some}
 
 module _ {Q : Type 0} (F : Format Q) (W : WellFormed F) (start : Q) (s : List ℕ) where
   abbrev Fit : List ℕ → Type 0
@@ -55,7 +52,7 @@ module _ {Q : Type 0} (F : Format Q) (W : WellFormed F) (start : Q) (s : List �
   -- ---- a piece
   module _ (q : Q) (at : ℕ) (o : Open q at) where
     -- the word that b picks, and any moves after it
-    word-open : (cs : List (Choice Q)) → F.piece q ≡ words cs → (b : ℕ) (c : Choice Q) → pick cs b ≡ picked c
+    word-open : (cs : List (Choice Q)) → F.piece q ≡ words cs → (b : ℕ) (c : Choice Q) → pick cs b ≡ Some c
         → (ms : List ℕ) → T (fits F c.next ms) → IsText (take at s ++ (c.word ++ print F c.next ms))
     unfolding fits print
     word-open cs i b c e ms f = subst IsText (rw (i, e)) (o (b ∷ ms) (rw (i, e) f))
@@ -67,22 +64,22 @@ module _ {Q : Type 0} (F : Format Q) (W : WellFormed F) (start : Q) (s : List �
         subst IsText (rw i) (o (v ∷ ms) (rw i (and_i (ltb v 10000) (fits F (next v) ms) (lt→ltb v 10000 l) f)))
 
     module _ (X : Q → ℕ → Outcome Q) (go : (r : Q) (p : ℕ) → Open r p → Said (X r p)) where
-      word-said : (cs : List (Choice Q)) → F.piece q ≡ words cs → Each (λ c. IsWord c.word) cs → (x : Picked Q)
+      word-said : (cs : List (Choice Q)) → F.piece q ≡ words cs → Each (λ c. IsWord c.word) cs → (x : Option (Choice Q))
           → pick cs (byte_at s at) ≡ x → Said (word_then F s X at x)
-      word-said cs i ok missing e = stuck q at o
-      word-said cs i ok (picked c) e = by (match_at s at c.word) (match-said s c.word at (word_bytes c.word w))
+      word-said cs i ok None e = stuck q at o
+      word-said cs i ok (Some c) e = by (match_at s at c.word) (match-said s c.word at (word_bytes c.word w))
         where
           w : IsWord c.word
           w = (pick-has (λ c. IsWord c.word) cs (byte_at s at) c ok e).0
 
-          by : (x : Matched) → MatchSaid s c.word at x → Said (match_then F s (X c.next) x)
-          by (Past p) sp =
+          by : (x : Result ℕ ℕ) → MatchSaid s c.word at x → Said (match_then F s (X c.next) x)
+          by (Ok p) sp =
               go c.next p
               (λ ms f.
               subst IsText
               (sym (append_assoc (take at s) c.word (print F c.next ms)) ∙ ap (λ (z : List ℕ). z ++ print F c.next ms) (sym sp))
               (word-open cs i (byte_at s at) c e ms f))
-          by (Differs p) (x, t, j, sp) =
+          by (Err p) (x, t, j, sp) =
               let (ms, f) = W.lives c.next in
               let after : List ℕ = print F c.next ms in
               let whole : take at s ++ (c.word ++ after) ≡ (take at s ++ x) ++ (t ++ after) =
@@ -91,14 +88,14 @@ module _ {Q : Type 0} (F : Format Q) (W : WellFormed F) (start : Q) (s : List �
               wrong p (take at s ++ x) (t ++ after) sp (subst IsText whole (word-open cs i (byte_at s at) c e ms f))
 
   -- a word of the state begins with the byte at the place, which is so viable
-  started-by : (b : ℕ) (y : Piece Q) → starts b y ≡ true → (cs : List (Choice Q)) × (c : Choice Q) × (y ≡ words cs) × (pick cs b ≡ picked c)
+  started-by : (b : ℕ) (y : Piece Q) → starts b y ≡ true → (cs : List (Choice Q)) × (c : Choice Q) × (y ≡ words cs) × (pick cs b ≡ Some c)
   started-by b (number test k next) e = absurd (along (sym e) tt)
   started-by b (words cs) e = by (pick cs b) refl e
     where
-      by : (x : Picked Q) → pick cs b ≡ x → is_picked x ≡ true
-          → (ds : List (Choice Q)) × (c : Choice Q) × (words cs ≡ words ds) × (pick ds b ≡ picked c)
-      by missing i e = absurd (along (sym e) tt)
-      by (picked c) i e = (cs, c, refl, i)
+      by : (x : Option (Choice Q)) → pick cs b ≡ x → is_some x ≡ true
+          → (ds : List (Choice Q)) × (c : Choice Q) × (words cs ≡ words ds) × (pick ds b ≡ Some c)
+      by None i e = absurd (along (sym e) tt)
+      by (Some c) i e = (cs, c, refl, i)
 
   started : (q : Q) (p : ℕ) → Open q p → starts (byte_at s p) (F.piece q) ≡ true → Begins Fit (print F start) (take (p + 1) s)
   started q p o e =
@@ -114,10 +111,10 @@ module _ {Q : Type 0} (F : Format Q) (W : WellFormed F) (start : Q) (s : List �
       (subst IsText whole (word-open q p o cs i (byte_at s p) c j ms fit))
 
   module _ (q : Q) (at : ℕ) (o : Open q at) (X : Q → ℕ → Outcome Q) (go : (r : Q) (p : ℕ) → Open r p → Said (X r p)) where
-    value-said : (test : ℕ → Bool) (k : ℕ) (next : ℕ → Q) → F.piece q ≡ number test k next → k ≢ F.shape → (x : Numeral)
+    value-said : (test : ℕ → Bool) (k : ℕ) (next : ℕ → Q) → F.piece q ≡ number test k next → k ≢ F.shape → (x : Option (ℕ × ℕ))
         → NumberSaid s at x → Said (number_then F s X test k next at x)
-    value-said test k next i n Missing h = stuck q at o
-    value-said test k next i n (Value v p) (l, sp) = by (test v) (starts (byte_at s p) (F.piece (next v))) refl
+    value-said test k next i n None h = stuck q at o
+    value-said test k next i n (Some (v, p)) (l, sp) = by (test v) (starts (byte_at s p) (F.piece (next v))) refl
       where
         onward : Open (next v) p
         onward ms f =

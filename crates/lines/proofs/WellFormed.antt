@@ -11,7 +11,8 @@ use borrow.Author.Tests.{eqb-true}
 use Rattle.text.specs.Meaning.{Bytes}
 use Rattle.text.specs.Syntax.{digit_text, decimal}
 use Rattle.text.proofs.Refusals.{decimal-bytes}
-use Rattle.lines.specs.Format.{first, pick, fits_word, fits, Choice, Piece, Format, Picked, words, number, missing, picked}
+use Rattle.lines.specs.Format.{first, pick, fits_word, fits, Choice, Piece, Format, words, number}
+use Rattle.std.specs.Prelude.{Option, Some, None}
 
 -- bytes, at least one
 abbrev pub IsWord : List ℕ → Type 0
@@ -44,48 +45,48 @@ word_first (b ∷ w) h = h.0
 
 module _ {Q : Type 0} where
   -- ---- the choice that a byte picks
-  same-choice : (c d : Choice Q) → ◌≡◌ {A = Picked Q} (picked c) (picked d) → c ≡ d
+  same-choice : (c d : Choice Q) → ◌≡◌ {A = Option (Choice Q)} (Some c) (Some d) → c ≡ d
   same-choice c d e = cc
 
-  never : (c : Choice Q) → ◌≡◌ {A = Picked Q} missing (picked c) → ⊥
+  never : (c : Choice Q) → ◌≡◌ {A = Option (Choice Q)} None (Some c) → ⊥
   never c e = let z : ◌≡◌ {A = ℕ} 0 1 = cc in absurd (omega arith)
 
-  pub pick-has : (P : Choice Q → Type 0) (cs : List (Choice Q)) (b : ℕ) (c : Choice Q) → Each P cs → pick cs b ≡ picked c
+  pub pick-has : (P : Choice Q → Type 0) (cs : List (Choice Q)) (b : ℕ) (c : Choice Q) → Each P cs → pick cs b ≡ Some c
       → P c × (first c.word ≡ b)
   pick-has P [] b c h e = absurd (never c e)
   pick-has P (d ∷ cs) b c (p, h) e = by (eqb (first d.word) b) refl e (pick-has P cs b c h)
     where
-      by : (t : Bool) → eqb (first d.word) b ≡ t → cond t (picked d) (pick cs b) ≡ picked c
-          → (pick cs b ≡ picked c → P c × (first c.word ≡ b)) → P c × (first c.word ≡ b)
+      by : (t : Bool) → eqb (first d.word) b ≡ t → cond t (Some d) (pick cs b) ≡ Some c
+          → (pick cs b ≡ Some c → P c × (first c.word ≡ b)) → P c × (first c.word ≡ b)
       by true k i more =
           let j : d ≡ c = same-choice d c i in
           subst (λ (x : Choice Q). P x × (first x.word ≡ b)) j (p, eqb-true (first d.word) b k)
       by false k i more = more i
 
   -- some choice has the property
-  abbrev pub Some : (Choice Q → Type 0) → List (Choice Q) → Type 0
-  Some P [] = ⊥
-  Some P (c ∷ cs) = P c ⊎ Some P cs
+  abbrev pub Any : (Choice Q → Type 0) → List (Choice Q) → Type 0
+  Any P [] = ⊥
+  Any P (c ∷ cs) = P c ⊎ Any P cs
 
   -- a move that fits is the first byte of a word
   pub picked-some : (F : Format Q) (rest : Q → Bool) (cs : List (Choice Q)) (m : ℕ) → T (fits_word F rest (pick cs m))
-      → Some (λ c. (first c.word ≡ m) × T (rest c.next)) cs
+      → Any (λ c. (first c.word ≡ m) × T (rest c.next)) cs
   picked-some F rest [] m f = absurd f
   picked-some F rest (c ∷ cs) m f = by (eqb (first c.word) m) refl f (picked-some F rest cs m)
     where
-      by : (t : Bool) → eqb (first c.word) m ≡ t → T (fits_word F rest (cond t (picked c) (pick cs m)))
-          → (T (fits_word F rest (pick cs m)) → Some (λ c. (first c.word ≡ m) × T (rest c.next)) cs)
-          → Some (λ c. (first c.word ≡ m) × T (rest c.next)) (c ∷ cs)
+      by : (t : Bool) → eqb (first c.word) m ≡ t → T (fits_word F rest (cond t (Some c) (pick cs m)))
+          → (T (fits_word F rest (pick cs m)) → Any (λ c. (first c.word ≡ m) × T (rest c.next)) cs)
+          → Any (λ c. (first c.word ≡ m) × T (rest c.next)) (c ∷ cs)
       by true e f more = inl (eqb-true (first c.word) m e, f)
       by false e f more = inr (more f)
 
   -- no word begins with the end
-  pub no_end : (cs : List (Choice Q)) → Each (λ c. IsWord c.word) cs → pick cs 256 ≡ missing
+  pub no_end : (cs : List (Choice Q)) → Each (λ c. IsWord c.word) cs → pick cs 256 ≡ None
   no_end cs h = by (pick cs 256) refl
     where
-      by : (x : Picked Q) → pick cs 256 ≡ x → pick cs 256 ≡ missing
-      by missing e = e
-      by (picked c) e =
+      by : (x : Option (Choice Q)) → pick cs 256 ≡ x → pick cs 256 ≡ None
+      by None e = e
+      by (Some c) e =
           let (w, f) = pick-has (λ c. IsWord c.word) cs 256 c h e in absurd (omega (arith, word_first c.word w, f))
 
 -- ---- what a text begins with

@@ -3,26 +3,23 @@ use Rattle.std.specs.Prelude.{ℕ, zero, suc, Bool, ◌&&◌, cond, List, eqb, l
 use Rattle.table.specs.Outcome.{Outcome, answered, refused}
 use Rattle.table.specs.Words.{variables_fit}
 use Rattle.text.specs.Read.{end, byte_at, number_at, match_at}
-use Rattle.text.specs.declared.head.Matched.{Matched}
-use Rattle.text.specs.declared.head.Matched.TheVariants.{Past, Differs}
-use Rattle.text.specs.declared.number.Numeral.{Numeral}
-use Rattle.text.specs.declared.number.Numeral.TheVariants.{Value, Missing}
-use Rattle.lines.specs.Format.{pick, starts, Piece, Format, Picked, words, number, missing, picked}
+use Rattle.lines.specs.Format.{pick, starts, Piece, Format, words, number, Choice}
+use Rattle.std.specs.Prelude.{Option, Some, None, Result, Ok, Err}
 
 module _ {Q : Type 0} (F : Format Q) (s : List ℕ) where
   -- `go` reads on in a state from a place
-  abbrev pub match_then : (ℕ → Outcome Q) → Matched → Outcome Q
-  match_then go (Past p) = go p
-  match_then go (Differs p) = refused F.shape p
+  abbrev pub match_then : (ℕ → Outcome Q) → Result ℕ ℕ → Outcome Q
+  match_then go (Ok p) = go p
+  match_then go (Err p) = refused F.shape p
 
-  abbrev pub word_then : (Q → ℕ → Outcome Q) → ℕ → Picked Q → Outcome Q
-  word_then go at missing = refused F.shape at
-  word_then go at (picked c) = match_then (go c.next) (match_at s at c.word)
+  abbrev pub word_then : (Q → ℕ → Outcome Q) → ℕ → Option (Choice Q) → Outcome Q
+  word_then go at None = refused F.shape at
+  word_then go at (Some c) = match_then (go c.next) (match_at s at c.word)
 
   -- a value that fails the test is a fault only where what follows has the right shape
-  abbrev pub number_then : (Q → ℕ → Outcome Q) → (ℕ → Bool) → ℕ → (ℕ → Q) → ℕ → Numeral → Outcome Q
-  number_then go test k next at Missing = refused F.shape at
-  number_then go test k next at (Value v p) =
+  abbrev pub number_then : (Q → ℕ → Outcome Q) → (ℕ → Bool) → ℕ → (ℕ → Q) → ℕ → Option (ℕ × ℕ) → Outcome Q
+  number_then go test k next at None = refused F.shape at
+  number_then go test k next at (Some (v, p)) =
       cond (test v) (go (next v) p)
       (cond (starts (byte_at s p) (F.piece (next v))) (refused k p) (refused F.shape p))
 

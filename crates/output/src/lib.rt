@@ -19,11 +19,9 @@ fn put_whole(d: &mut [u8], at: usize, v: u64) -> usize
 {
     let mut p = at;
     let mut unit: u64 = 10000000000000000000;
-    let mut j: u32 = 0;
-    while j < 19 {
+    for _ in 0..19u32 {
         p = put_digit(d, p, v, unit);
-        unit = unit / 10;
-        j += 1;
+        unit /= 10;
     }
     put(d, p, (FIRST_DIGIT + (v % 10) as u32) as u8)
 }
@@ -55,11 +53,9 @@ fn put_literals(d: &mut [u8], start: usize, t: Term) -> usize
     ensures { Wrote d.old start d.new result (literals_text t 64) × (result < 5000) }
 {
     let mut p = start;
-    let mut v: u32 = 0;
-    while v < 64 {
+    for v in 0..64 {
         let q = put_mark(d, p, has_bit(t.positive, v), b" +", v);
         p = put_mark(d, q, has_bit(t.negative, v), b" -", v);
-        v += 1;
     }
     p
 }

@@ -20,8 +20,8 @@ pub fn table_refusal_line(sink: &mut [u8], why: Refusal) -> usize
     ensures { Wrote sink.old 0 sink.new result (table_refusal_line (number_of why) (node_of why)) }
 {
     let k = number_of(why);
-    if k == 42 {
-        return number_line(sink, k);
+    match why {
+        Refusal::Capacity => number_line(sink, k),
+        _ => refusal_line(sink, k, node_of(why) as u64),
     }
-    refusal_line(sink, k, node_of(why) as u64)
 }

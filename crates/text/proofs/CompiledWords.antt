@@ -17,9 +17,9 @@ use Rattle.text.specs.Faults.{nodes_in, nodes_in_all}
 use Rattle.text.specs.Read.{no_children, with_child, operator_words, Stepped}
 use Rattle.text.specs.Syntax.{count, least_forms, most_forms, print_form, print_forms, FormFits, FormsFit, operator_node, compile_form}
 use Rattle.text.specs.Syntax.{compile_forms, Form, Forms, constant_form, literal_form, inner_form, line_form, none, more}
-use Rattle.text.specs.declared.answer.Step.TheVariants.{Made}
 use Rattle.text.specs.declared.head.Operator.{Operator}
 use Rattle.text.specs.declared.head.Operator.TheVariants.{Decision, Conjunction}
+use Rattle.text.specs.Answers.{formed}
 
 -- ---- how many
 mutual
@@ -85,17 +85,17 @@ sets_behind w u v n m e = ap (λ (k : ℕ). sets (sets w (words_for n) u) k v) e
 abbrev pub result : List ℕ → Form → ℕ → List ℕ → ℕ → Stepped
 result lines f at w n =
     record {
-      step = Made (at + length (print_form f)) (n + nodes_in f) (compile_form lines n f).node;
+      step = formed (at + length (print_form f)) (n + nodes_in f) (compile_form lines n f).node;
       words = sets w (words_for n) (compile_form lines n f).words;
     }
 
 pub made-same : {p p' m m' a a' : ℕ} {w w' : List ℕ} → p ≡ p' → m ≡ m' → a ≡ a' → w ≡ w'
-    → ◌≡◌ {A = Stepped} (record { step = Made p m a; words = w }) (record { step = Made p' m' a'; words = w' })
-made-same e f g h = λ i. record { step = Made (e i) (f i) (g i); words = h i }
+    → ◌≡◌ {A = Stepped} (record { step = formed p m a; words = w }) (record { step = formed p' m' a'; words = w' })
+made-same e f g h = λ i. record { step = formed (e i) (f i) (g i); words = h i }
 
 -- node n of these words, made at the closing bracket at p
 abbrev pub made : ℕ → List ℕ → ℕ → NodeWords → Stepped
-made p w n y = record { step = Made (p + 1) (n + 1) n; words = put_words w n y }
+made p w n y = record { step = formed (p + 1) (n + 1) n; words = put_words w n y }
 
 pub made_as : {p p' n n' : ℕ} {w w' : List ℕ} {y y' : NodeWords} → p ≡ p' → w ≡ w' → n ≡ n' → y ≡ y' → made p w n y ≡ made p' w' n' y'
 made_as e f g h = λ i. made (e i) (f i) (g i) (h i)

@@ -5,11 +5,11 @@ use mathlib.Core.List.{List, [], ◌∷◌}
 use Rattle.text.specs.Answers.{fault_number}
 use Rattle.text.specs.Read.{Stepped}
 use Rattle.text.specs.declared.answer.Fault.{Fault}
-use Rattle.text.specs.declared.answer.Step.TheVariants.{Stop}
+use Rattle.text.specs.Answers.{misread}
 
 abbrev pub StepRead : List (ℕ × ℕ) → Stepped → Stepped → Type 0
 StepRead [] good r = r ≡ good
-StepRead (e ∷ fs) good r = (f : Fault) × (fault_number f ≡ e.0) × (r.step ≡ Stop f e.1)
+StepRead (e ∷ fs) good r = (f : Fault) × (fault_number f ≡ e.0) × (r.step ≡ misread f e.1)
 
 pub same_read : {fs fs' : List (ℕ × ℕ)} {good good' : Stepped} (r : Stepped) → fs ≡ fs' → good ≡ good' → StepRead fs good r
     → StepRead fs' good' r

@@ -7,10 +7,8 @@ use native.Mathlib.Omega.{arith}
 use lib.Dec.{eqb, ltb}
 use Rattle.table.specs.Outcome.{Outcome, answered, refused}
 use Rattle.text.specs.Read.{byte_at, digit_at, digits_at, number_at, match_at}
-use Rattle.text.specs.declared.head.Matched.TheVariants.{Past, Differs}
-use Rattle.text.specs.declared.number.Numeral.{Numeral}
-use Rattle.text.specs.declared.number.Numeral.TheVariants.{Value, Missing}
 use Rattle.text.proofs.Words.{matched_at}
+use Rattle.std.specs.Prelude.{Option, Some, None, Ok, Err}
 
 -- s' has the bytes of s up to place p
 abbrev pub SameTo : List ℕ → List ℕ → ℕ → Type 0
@@ -83,9 +81,9 @@ module _ {R A : Type 0} (of : R → Outcome A) (s : List ℕ) where
 
 -- ---- numbers and words
 -- where a number lies
-abbrev pub numeral_at : ℕ → Numeral → ℕ
-numeral_at at (Value v p) = p
-numeral_at at Missing = at
+abbrev pub numeral_at : ℕ → Option (ℕ × ℕ) → ℕ
+numeral_at at (Some (v, p)) = p
+numeral_at at None = at
 
 module _ (s : List ℕ) where
   digit-loc : (p : ℕ) → Local (λ (b : ℕ). p) s (λ z. digit_at z p) p
@@ -94,31 +92,31 @@ module _ (s : List ℕ) where
 
   digits-loc : (k start at v : ℕ) → Local (numeral_at start) s (λ z. digits_at k z at v) at
   unfolding digits_at
-  digits-loc zero start at v = ret (numeral_at start) s (Value v at) at (omega arith)
+  digits-loc zero start at v = ret (numeral_at start) s (Some (v, at)) at (omega arith)
   digits-loc (suc k) start at v =
       bind (numeral_at start) s (λ (b : ℕ). at) (λ z. digit_at z at)
-      (λ z d. cond (eqb d 10) (Value v at) (digits_at k z (at + 1) (10 * v + d))) at (digit-loc at)
-      (λ d. if (numeral_at start) s (eqb d 10) (λ z. Value v at) (λ z. digits_at k z (at + 1) (10 * v + d)) at
-      (ret (numeral_at start) s (Value v at) at (omega arith))
+      (λ z d. cond (eqb d 10) (Some (v, at)) (digits_at k z (at + 1) (10 * v + d))) at (digit-loc at)
+      (λ d. if (numeral_at start) s (eqb d 10) (λ z. Some (v, at)) (λ z. digits_at k z (at + 1) (10 * v + d)) at
+      (ret (numeral_at start) s (Some (v, at)) at (omega arith))
       (later (numeral_at start) s (λ z. digits_at k z (at + 1) (10 * v + d)) at (at + 1) (omega arith)
       (digits-loc k start (at + 1) (10 * v + d))))
 
   pub number-loc : (at : ℕ) → Local (numeral_at at) s (λ z. number_at z at) at
   unfolding number_at
   number-loc at =
-      let of : Numeral → ℕ = numeral_at at in
+      let of : Option (ℕ × ℕ) → ℕ = numeral_at at in
       bind of s (λ (b : ℕ). at) (λ z. digit_at z at)
-      (λ z d. cond (eqb d 10) Missing (cond (eqb d 0) (Value 0 (at + 1)) (digits_at 3 z (at + 1) d))) at (digit-loc at)
-      (λ d. if of s (eqb d 10) (λ z. Missing) (λ z. cond (eqb d 0) (Value 0 (at + 1)) (digits_at 3 z (at + 1) d)) at
-      (ret of s Missing at (omega arith))
-      (if of s (eqb d 0) (λ z. Value 0 (at + 1)) (λ z. digits_at 3 z (at + 1) d) at (ret of s (Value 0 (at + 1)) at (omega arith))
+      (λ z d. cond (eqb d 10) None (cond (eqb d 0) (Some (0, at + 1)) (digits_at 3 z (at + 1) d))) at (digit-loc at)
+      (λ d. if of s (eqb d 10) (λ z. None) (λ z. cond (eqb d 0) (Some (0, at + 1)) (digits_at 3 z (at + 1) d)) at
+      (ret of s None at (omega arith))
+      (if of s (eqb d 0) (λ z. Some (0, at + 1)) (λ z. digits_at 3 z (at + 1) d) at (ret of s (Some (0, at + 1)) at (omega arith))
       (later of s (λ z. digits_at 3 z (at + 1) d) at (at + 1) (omega arith) (digits-loc 3 at (at + 1) d))))
 
   pub match-loc : (w : List ℕ) (at : ℕ) → Local matched_at s (λ z. match_at z at w) at
   unfolding match_at
-  match-loc [] at = ret matched_at s (Past at) at (omega arith)
+  match-loc [] at = ret matched_at s (Ok at) at (omega arith)
   match-loc (b ∷ w) at =
-      at_byte matched_at s at (λ z c. cond (eqb c b) (match_at z (at + 1) w) (Differs at))
-      (λ c. if matched_at s (eqb c b) (λ z. match_at z (at + 1) w) (λ z. Differs at) at
+      at_byte matched_at s at (λ z c. cond (eqb c b) (match_at z (at + 1) w) (Err at))
+      (λ c. if matched_at s (eqb c b) (λ z. match_at z (at + 1) w) (λ z. Err at) at
       (later matched_at s (λ z. match_at z (at + 1) w) at (at + 1) (omega arith) (match-loc w (at + 1)))
-      (ret matched_at s (Differs at) at (omega arith)))
+      (ret matched_at s (Err at) at (omega arith)))

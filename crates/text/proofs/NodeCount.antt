@@ -15,65 +15,63 @@ use Rattle.text.specs.Read.{operator_words, end_at, form_then, rest_with, opened
 use Rattle.text.specs.Syntax.{least_forms, most_forms}
 use Rattle.text.specs.Words.{head_words}
 use Rattle.text.specs.declared.answer.Fault.TheVariants.{Range}
-use Rattle.text.specs.declared.answer.Step.{Step}
-use Rattle.text.specs.declared.answer.Step.TheVariants.{Stop, Made}
-use Rattle.text.specs.declared.head.InRange.{InRange}
-use Rattle.text.specs.declared.head.InRange.TheVariants.{Inside, Unfit}
 use Rattle.text.specs.declared.head.Limits.{Limits}
 use Rattle.text.specs.declared.head.Opening.{Opening}
-use Rattle.text.specs.declared.head.Opening.TheVariants.{Broken, Leaf, Inner, Line}
+use Rattle.text.specs.declared.head.Opening.TheVariants.{Leaf, Inner, Line}
 use Rattle.text.specs.declared.head.Operator.{Operator}
 use Rattle.text.specs.declared.head.Role.{Role}
 use Rattle.text.specs.declared.head.Role.TheVariants.{OwnForm, Argument}
-use Rattle.text.specs.declared.head.Spelled.{Spelled}
-use Rattle.text.specs.declared.head.Spelled.TheVariants.{Is, None}
 use Rattle.text.specs.declared.head.Word.TheVariants.{False, True, Yes, No, Pick, Both, Line as LineWord}
 use Rattle.text.proofs.Words.{May, OneOf, one_of, each-may}
+use Rattle.text.specs.declared.head.Word.{Word}
+use Rattle.std.specs.Prelude.{Result, Ok, Err}
+use Rattle.text.specs.declared.answer.Misread.{Misread}
+use Rattle.text.specs.declared.answer.Formed.{Formed}
 
 -- not the head of a form that refers to an earlier line
-abbrev NotLine : Opening → Type 0
-NotLine (Broken f p) = Unit {0}
-NotLine (Leaf k v p) = Unit {0}
-NotLine (Inner op p) = Unit {0}
-NotLine (Line k p) = ⊥
+abbrev NotLine : Result Opening Misread → Type 0
+NotLine (Err e) = Unit {0}
+NotLine (Ok (Leaf k v p)) = Unit {0}
+NotLine (Ok (Inner op p)) = Unit {0}
+NotLine (Ok (Line k p)) = ⊥
 
-leaf-not : (k : ℕ) (y : InRange) → NotLine (leaf_of k y)
-leaf-not k (Inside v p) = tt
-leaf-not k (Unfit f p) = tt
+leaf-not : (k : ℕ) (y : Result (ℕ × ℕ) Misread) → NotLine (leaf_of k y)
+leaf-not k (Ok (v, p)) = tt
+leaf-not k (Err e) = tt
 
-decision-not : (y : InRange) → NotLine (decision_of y)
-decision-not (Inside v p) = tt
-decision-not (Unfit f p) = tt
+decision-not : (y : Result (ℕ × ℕ) Misread) → NotLine (decision_of y)
+decision-not (Ok (v, p)) = tt
+decision-not (Err e) = tt
 
 -- at least n nodes afterwards
-abbrev AtLeast : ℕ → Step → Type 0
-AtLeast n (Made p m a) = n ≤ m
-AtLeast n (Stop f p) = Unit {0}
+abbrev AtLeast : ℕ → Result Formed Misread → Type 0
+AtLeast n (Ok d) = n ≤ d.nodes
+AtLeast n (Err e) = Unit {0}
 
 -- one node more than n at least, and no more than there is room for
-abbrev pub Grown : ℕ → ℕ → Step → Type 0
-Grown n room (Made p m a) = (n < m) × (m ≤ room)
-Grown n room (Stop f p) = Unit {0}
+abbrev pub Grown : ℕ → ℕ → Result Formed Misread → Type 0
+Grown n room (Ok d) = (n < d.nodes) × (d.nodes ≤ room)
+Grown n room (Err e) = Unit {0}
 
-grown-least : (n l room : ℕ) (x : Step) → l ≤ n → Grown n room x → AtLeast l x
-grown-least n l room (Made p m a) h k = omega arith
-grown-least n l room (Stop f p) h k = tt
+grown-least : (n l room : ℕ) (x : Result Formed Misread) → l ≤ n → Grown n room x → AtLeast l x
+grown-least n l room (Ok d) h k = omega arith
+grown-least n l room (Err e) h k = tt
 
-grown-more : (n l room : ℕ) (x : Step) → l ≤ n → Grown n room x → Grown l room x
-grown-more n l room (Made p m a) h k = omega arith
-grown-more n l room (Stop f p) h k = tt
+grown-more : (n l room : ℕ) (x : Result Formed Misread) → l ≤ n → Grown n room x → Grown l room x
+grown-more n l room (Ok d) h k = omega arith
+grown-more n l room (Err e) h k = tt
 
 module _ (s : List ℕ) where
-  word-not : (g : Limits) (x : Spelled) → OneOf (May OwnForm) x → NotLine (word_then s g x)
+  word-not : (g : Limits) (x : Result (Word × ℕ) ℕ) → OneOf (May OwnForm) x → NotLine (word_then s g x)
   unfolding tail_at
-  word-not g (None p) m = tt
-  word-not g (Is False p) m = tt
-  word-not g (Is True p) m = tt
-  word-not g (Is Yes p) m = leaf-not 2 (ranged_at s p 0 g.variables 41 Range)
-  word-not g (Is No p) m = leaf-not 3 (ranged_at s p 0 g.variables 41 Range)
-  word-not g (Is Pick p) m = decision-not (ranged_at s p 0 g.variables 32 Range)
-  word-not g (Is Both p) m = tt
-  word-not g (Is LineWord p) m = absurd m
+  word-not g (Err p) m = tt
+  word-not g (Ok (False, p)) m = tt
+  word-not g (Ok (True, p)) m = tt
+  word-not g (Ok (Yes, p)) m = leaf-not 2 (ranged_at s p 0 g.variables 41 Range)
+  word-not g (Ok (No, p)) m = leaf-not 3 (ranged_at s p 0 g.variables 41 Range)
+  word-not g (Ok (Pick, p)) m = decision-not (ranged_at s p 0 g.variables 32 Range)
+  word-not g (Ok (Both, p)) m = tt
+  word-not g (Ok (LineWord, p)) m = absurd m
 
   head-not : (at : ℕ) (g : Limits) → NotLine (head_at s at OwnForm g)
   unfolding head_at
@@ -107,9 +105,9 @@ module _ (s : List ℕ) where
 
     then-grown : (n : ℕ) (go : ℕ → List ℕ → ℕ → ℕ → Stepped)
         → ((p : ℕ) (v : List ℕ) (m a : ℕ) → Grown m g.room (go p v m a).step)
-        → (w : List ℕ) (x : Step) → AtLeast n x → Grown n g.room (form_then go w x).step
-    then-grown n go h w (Stop e p) l = tt
-    then-grown n go h w (Made p m a) l = grown-more m n g.room (go p w m a).step l (h p w m a)
+        → (w : List ℕ) (x : Result Formed Misread) → AtLeast n x → Grown n g.room (form_then go w x).step
+    then-grown n go h w (Err e) l = tt
+    then-grown n go h w (Ok d) l = grown-more d.nodes n g.room (go d.past w d.nodes d.node).step l (h d.past w d.nodes d.node)
 
     rest-grown : (op : Operator) (k at : ℕ) (w : List ℕ) (n : ℕ) (cs : Children)
         → Grown n g.room (rest_with k F (setting s lines g) op at w n cs).step
@@ -125,19 +123,20 @@ module _ (s : List ℕ) where
             (then-grown n (λ p v m a. rest_with k F (setting s lines g) op p v m (with_child cs a)) h (F (at + 1) w n).words
             (F (at + 1) w n).step (f (at + 1) w n))
 
-    grown-opened : (w : List ℕ) (n : ℕ) (o : Opening) → NotLine o → Grown n g.room (opened_of F (setting s lines g) w n o).step
-    grown-opened w n (Broken e p) h = tt
-    grown-opened w n (Leaf k x p) h = close-grown p w n g.room (encoded k x [])
-    grown-opened w n (Line k p) h = absurd h
-    grown-opened w n (Inner op p) h = rest-grown op (most_forms op) p w n no_children
+    grown-opened : (w : List ℕ) (n : ℕ) (o : Result Opening Misread) → NotLine o
+        → Grown n g.room (opened_of F (setting s lines g) w n o).step
+    grown-opened w n (Err e) h = tt
+    grown-opened w n (Ok (Leaf k x p)) h = close-grown p w n g.room (encoded k x [])
+    grown-opened w n (Ok (Line k p)) h = absurd h
+    grown-opened w n (Ok (Inner op p)) h = rest-grown op (most_forms op) p w n no_children
 
-    least-opened : (w : List ℕ) (n : ℕ) (o : Opening) → AtLeast n (opened_of F (setting s lines g) w n o).step
-    least-opened w n (Broken e p) = tt
-    least-opened w n (Leaf k x p) =
+    least-opened : (w : List ℕ) (n : ℕ) (o : Result Opening Misread) → AtLeast n (opened_of F (setting s lines g) w n o).step
+    least-opened w n (Err e) = tt
+    least-opened w n (Ok (Leaf k x p)) =
         grown-least n n g.room (close_at s p w n g.room (encoded k x [])).step (omega arith)
         (close-grown p w n g.room (encoded k x []))
-    least-opened w n (Line k p) = omega arith
-    least-opened w n (Inner op p) =
+    least-opened w n (Ok (Line k p)) = omega arith
+    least-opened w n (Ok (Inner op p)) =
         grown-least n n g.room (rest_with (most_forms op) F (setting s lines g) op p w n no_children).step (omega arith)
         (rest-grown op (most_forms op) p w n no_children)
 

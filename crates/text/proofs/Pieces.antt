@@ -1,6 +1,6 @@
 -- Reading at a place of a text of which the rest is known: bytes, words and numbers.
 use Prim.Native.Nat.{ℕ, suc, ◌+◌, ◌*◌, ◌/◌, ◌%◌, ◌<◌, ◌≤◌}
-use mathlib.Core.Path.{◌≡◌, refl, sym, ap, ap₂, subst, ◌∙◌}
+use mathlib.Core.Path.{◌≡◌, refl, sym, ap, subst, ◌∙◌}
 use mathlib.Core.Bool.{cond}
 use mathlib.Core.List.{List, [], ◌∷◌, ◌++◌}
 use native.Mathlib.Nat.{add-zero, div-div-eq-div-mul}
@@ -14,16 +14,14 @@ use Rattle.text.specs.Read.{byte_at, digit_at, digits_at, number_at, match_at, r
 use Rattle.text.specs.Syntax.{decimal}
 use Rattle.text.specs.Words.{spelling, head_words}
 use Rattle.text.specs.declared.answer.Fault.{Fault}
-use Rattle.text.specs.declared.head.InRange.TheVariants.{Inside, Unfit}
 use Rattle.text.specs.declared.head.Limits.{Limits}
-use Rattle.text.specs.declared.head.Matched.TheVariants.{Past}
 use Rattle.text.specs.declared.head.Role.{Role}
 use Rattle.text.specs.declared.head.Role.TheVariants.{OwnForm, Argument}
-use Rattle.text.specs.declared.head.Spelled.TheVariants.{Is}
 use Rattle.text.specs.declared.head.Word.{Word}
 use Rattle.text.specs.declared.head.Word.TheVariants.{False, True, Yes, No, Pick, Both, Line}
-use Rattle.text.specs.declared.number.Numeral.TheVariants.{Value}
 use Rattle.text.proofs.Words.{May, first, spelt, apart, spelled_of, letter_then, by-letter}
+use Rattle.std.specs.Prelude.{Option, Some, Ok}
+use Rattle.text.specs.Answers.{misread}
 
 -- r is what is left of s from a place on
 abbrev pub Here : List ℕ → ℕ → List ℕ → Type 0
@@ -94,12 +92,12 @@ module _ (s : List ℕ) where
   pub next : (at b : ℕ) (r : List ℕ) → Here s at (b ∷ r) → Here s (at + 1) r
   next at b r h = past at (b ∷ []) r h
 
-  pub matched : (w r : List ℕ) (at : ℕ) → Here s at (w ++ r) → match_at s at w ≡ Past (at + length w)
+  pub matched : (w r : List ℕ) (at : ℕ) → Here s at (w ++ r) → match_at s at w ≡ Ok (at + length w)
   unfolding match_at
-  matched [] r at h = ap Past (sym (add-zero at))
+  matched [] r at h = ap Ok (sym (add-zero at))
   matched (b ∷ w) r at h =
       let e : at + 1 + length w ≡ at + suc (length w) = omega arith in
-      rw (eq-eqb (byte_at s at) b (byte at b (w ++ r) h)) (matched w r (at + 1) (next at b (w ++ r) h) ∙ ap Past e)
+      rw (eq-eqb (byte_at s at) b (byte at b (w ++ r) h)) (matched w r (at + 1) (next at b (w ++ r) h) ∙ ap Ok e)
 
   -- ---- numbers
   digit : (at d : ℕ) (r : List ℕ) → d < 10 → Here s at ((48 + d) ∷ r) → digit_at s at ≡ d
@@ -112,7 +110,7 @@ module _ (s : List ℕ) where
   unfolding digit_at
   no_digit at b r l h = rw (byte at b r h, lt-ltb b 48 l)
 
-  nought : (at a : ℕ) → digit_at s at ≡ a → a ≡ 0 → number_at s at ≡ Value 0 (at + 1)
+  nought : (at a : ℕ) → digit_at s at ≡ a → a ≡ 0 → number_at s at ≡ Some (0, at + 1)
   unfolding number_at
   nought at a ea h = rw (ea, h)
 
@@ -120,11 +118,11 @@ module _ (s : List ℕ) where
   unfolding number_at
   many at a ea n h = rw (ea, ne_eqb a 10 n, ne_eqb a 0 h)
 
-  stop : (k at v : ℕ) → digit_at s at ≡ 10 → digits_at (suc k) s at v ≡ Value v at
+  stop : (k at v : ℕ) → digit_at s at ≡ 10 → digits_at (suc k) s at v ≡ Some (v, at)
   unfolding digits_at
   stop k at v ea = rw ea
 
-  none_left : (at v : ℕ) → digits_at 0 s at v ≡ Value v at
+  none_left : (at v : ℕ) → digits_at 0 s at v ≡ Some (v, at)
   unfolding digits_at
   none_left at v = refl
 
@@ -134,10 +132,10 @@ module _ (s : List ℕ) where
 
   module _ (v b : ℕ) (r : List ℕ) (at : ℕ) (lb : b < 48) where
     abbrev Read : List ℕ → Type 0
-    Read x = Here s at (x ++ (b ∷ r)) → number_at s at ≡ Value v (at + length x)
+    Read x = Here s at (x ++ (b ∷ r)) → number_at s at ≡ Some (v, at + length x)
 
-    same-value : (u p q : ℕ) → u ≡ v → p ≡ q → Value u p ≡ Value v q
-    same-value u p q e f = ap₂ Value e f
+    same-value : (u p q : ℕ) → u ≡ v → p ≡ q → ◌≡◌ {A = Option (ℕ × ℕ)} (Some (u, p)) (Some (v, q))
+    same-value u p q e f = λ i. Some (e i, f i)
 
     number-0 : v ≡ 0 → Read ((48 + v) ∷ [])
     number-0 z h = nought at v (digit at v (b ∷ r) (omega arith) h) z ∙ same-value 0 (at + 1) (at + 1) (sym z) refl
@@ -202,8 +200,8 @@ module _ (s : List ℕ) where
   -- a number before the byte that is to follow it
   pub ranged : (v low high end at : ℕ) (why : Fault) (r : List ℕ) → v < 10000 → end < 48 → Here s at (decimal v ++ (end ∷ r))
       → ranged_at s at low high end why
-      ≡ cond (ltb v low) (Unfit why (at + length (decimal v)))
-      (cond (leb high v) (Unfit why (at + length (decimal v))) (Inside v (at + length (decimal v))))
+      ≡ cond (ltb v low) (misread why (at + length (decimal v)))
+      (cond (leb high v) (misread why (at + length (decimal v))) (Ok (v, at + length (decimal v))))
   unfolding ranged_at
   ranged v low high end at why r lv le h =
       let p : ℕ = at + length (decimal v) in
@@ -231,7 +229,7 @@ module _ (s : List ℕ) where
   unfolding head_at
   opening w role at g r m h =
       let h₁ : Here s (at + 1) (spelling w ++ r) = next at 40 (spelling w ++ r) h in
-      let e : word_at s (at + 1) (head_words role) ≡ Is w (at + 1 + length (spelling w)) =
+      let e : word_at s (at + 1) (head_words role) ≡ Ok (w, at + 1 + length (spelling w)) =
       by-letter s (at + 1) (head_words role) (apart role) ∙ ap (letter_then s (at + 1) (head_words role)) (starts w (at + 1) r h₁)
       ∙ letter w role (at + 1) m ∙ ap (spelled_of w) (matched (spelling w) r (at + 1) h₁) in
       rw (eq-eqb (byte_at s at) 40 (byte at 40 (spelling w ++ r) h), e)

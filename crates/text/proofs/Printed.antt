@@ -17,7 +17,6 @@ use Rattle.text.specs.Syntax.{decimal, count, most_forms, print_operator, print_
 use Rattle.text.specs.Syntax.{compile_forms, Form, Forms, constant_form, literal_form, inner_form, line_form, none, more}
 use Rattle.text.specs.Words.{spelling}
 use Rattle.text.specs.declared.answer.Fault.TheVariants.{Shape, Depth}
-use Rattle.text.specs.declared.answer.Step.TheVariants.{Stop}
 use Rattle.text.specs.declared.head.Limits.{Limits}
 use Rattle.text.specs.declared.head.Operator.{Operator}
 use Rattle.text.specs.declared.head.Role.{Role}
@@ -31,6 +30,7 @@ use Rattle.text.proofs.PrintedForms.{rest_faults, rest_read, operator-then}
 use Rattle.text.proofs.PrintedLeaves.{constant-read, literal-read, line_read}
 use Rattle.text.proofs.Spelling.{rest_text, inner-flat, more-flat, constant-length, literal-length, line-length, inner-length, Stands}
 use Rattle.text.proofs.Spelling.{begins}
+use Rattle.text.specs.Answers.{misread}
 
 module _ (s : List ℕ) (N k room : ℕ) (lines : List ℕ) where
   abbrev lim : Limits
@@ -46,7 +46,7 @@ module _ (s : List ℕ) (N k room : ℕ) (lines : List ℕ) where
   deep-read f role at w n r h =
       let (x, e) = begins f in
       let b : byte_at s at ≡ 40 = byte s at 40 (x ++ r) (subst (λ (z : List ℕ). Here s at (z ++ r)) e h) in
-      (Depth, refl, ap (λ (t : Bool). Stop (cond t Depth Shape) at) (eq-eqb (byte_at s at) 40 b))
+      (Depth, refl, ap (λ (t : Bool). misread (cond t Depth Shape) at) (eq-eqb (byte_at s at) 40 b))
 
   -- what is made of an operator and of the forms after it is the inner form's node
   inner-same : (op : Operator) (fs : Forms) (at : ℕ) (w : List ℕ) (n : ℕ) → FormFits 10000 10000 (inner_form op fs)

@@ -21,10 +21,8 @@ use Rattle.text.specs.Syntax.{decimal, count, least_forms, most_forms, print_ope
 use Rattle.text.specs.Syntax.{FormsFit, compile_form, compile_forms, Form, Forms, none, more}
 use Rattle.text.specs.Words.{spelling}
 use Rattle.text.specs.declared.answer.Fault.TheVariants.{Range}
-use Rattle.text.specs.declared.answer.Step.{Step}
-use Rattle.text.specs.declared.head.InRange.TheVariants.{Inside, Unfit}
 use Rattle.text.specs.declared.head.Limits.{Limits}
-use Rattle.text.specs.declared.head.Opening.TheVariants.{Broken, Inner}
+use Rattle.text.specs.declared.head.Opening.TheVariants.{Inner}
 use Rattle.text.specs.declared.head.Operator.{Operator}
 use Rattle.text.specs.declared.head.Operator.TheVariants.{Decision, Conjunction}
 use Rattle.text.specs.declared.head.Role.{Role}
@@ -35,6 +33,10 @@ use Rattle.text.proofs.FirstFault.{StepRead, same_read}
 use Rattle.text.proofs.Pieces.{Here, byte, past, next, opening}
 use Rattle.text.proofs.PrintedLeaves.{range-read, close-read, by-head}
 use Rattle.text.proofs.Spelling.{rest_text, decision-flat, more-flat, more-length}
+use Rattle.std.specs.Prelude.{Result, Ok}
+use Rattle.text.specs.declared.answer.Misread.{Misread}
+use Rattle.text.specs.declared.answer.Formed.{Formed}
+use Rattle.text.specs.Answers.{misread}
 
 module _ (s : List ℕ) (N k room : ℕ) (lines : List ℕ) where
   abbrev lim : Limits
@@ -47,7 +49,7 @@ module _ (s : List ℕ) (N k room : ℕ) (lines : List ℕ) where
   form-then : (go : ℕ → List ℕ → ℕ → ℕ → Stepped) (fs gs : List (ℕ × ℕ)) (a r good : Stepped) → StepRead fs a r
       → StepRead gs good (form_then go a.words a.step) → StepRead (fs ++ gs) good (form_then go r.words r.step)
   form-then go [] gs a r good e h = subst (λ (z : Stepped). StepRead gs good (form_then go z.words z.step)) (sym e) h
-  form-then go (e ∷ fs) gs a r good (f, i, j) h = (f, i, ap (λ (t : Step). (form_then go r.words t).step) j)
+  form-then go (e ∷ fs) gs a r good (f, i, j) h = (f, i, ap (λ (t : Result Formed Misread). (form_then go r.words t).step) j)
 
   -- forms are read well with d brackets
   abbrev FormsRead : ℕ → Type 0
@@ -123,9 +125,9 @@ module _ (s : List ℕ) (N k room : ℕ) (lines : List ℕ) where
     unfolding tail_at
     operator-then Conjunction role at w n gs good r b h rest =
         let five : at + 1 + 4 ≡ at + 5 = omega arith in
-        let e : head_at s at role lim ≡ Inner Conjunction (at + 5) =
-        opening s Both role at lim (32 ∷ r) tt h ∙ ap (Inner Conjunction) five in
-        rw (by-head s N k room lines d role at w n (Inner Conjunction (at + 5)) e) rest
+        let e : head_at s at role lim ≡ Ok (Inner Conjunction (at + 5)) =
+        opening s Both role at lim (32 ∷ r) tt h ∙ ap (λ (z : ℕ). Ok (Inner Conjunction z)) five in
+        rw (by-head s N k room lines d role at w n (Ok (Inner Conjunction (at + 5))) e) rest
     operator-then (Decision x) role at w n gs good r b h rest = by (dec_lt x N)
       where
         p : ℕ
@@ -143,20 +145,20 @@ module _ (s : List ℕ) (N k room : ℕ) (lines : List ℕ) where
         place : q + length (decimal x) ≡ p
         place = omega (arith, length-append (ascii "(pick ") (decimal x))
 
-        head : head_at s at role lim ≡ decision_of (cond (ltb x N) (Inside x p) (Unfit Range p))
+        head : head_at s at role lim ≡ decision_of (cond (ltb x N) (Ok (x, p)) (misread Range p))
         head =
             opening s Pick role at lim (decimal x ++ (32 ∷ r)) tt h₁
             ∙ ap decision_of (range-read s x N 32 q Range r b (omega arith) h₂)
-            ∙ ap (λ (z : ℕ). decision_of (cond (ltb x N) (Inside x z) (Unfit Range z))) place
+            ∙ ap (λ (z : ℕ). decision_of (cond (ltb x N) (Ok (x, z)) (misread Range z))) place
 
         by : Dec (x < N) → StepRead (unless (ltb x N) 12 p ++ gs) good (form_at (suc d) G role at w n)
         by (no a) =
             let t : ltb x N ≡ false = le-ltb x N (omega arith) in
-            let e : head_at s at role lim ≡ Broken Range p =
-            head ∙ ap (λ (z : Bool). decision_of (cond z (Inside x p) (Unfit Range p))) t in
-            rw (t, by-head s N k room lines d role at w n (Broken Range p) e) (Range, refl, refl)
+            let e : head_at s at role lim ≡ misread Range p =
+            head ∙ ap (λ (z : Bool). decision_of (cond z (Ok (x, p)) (misread Range p))) t in
+            rw (t, by-head s N k room lines d role at w n (misread Range p) e) (Range, refl, refl)
         by (yes a) =
             let t : ltb x N ≡ true = lt-ltb x N a in
-            let e : head_at s at role lim ≡ Inner (Decision x) p =
-            head ∙ ap (λ (z : Bool). decision_of (cond z (Inside x p) (Unfit Range p))) t in
-            rw (t, by-head s N k room lines d role at w n (Inner (Decision x) p) e) rest
+            let e : head_at s at role lim ≡ Ok (Inner (Decision x) p) =
+            head ∙ ap (λ (z : Bool). decision_of (cond z (Ok (x, p)) (misread Range p))) t in
+            rw (t, by-head s N k room lines d role at w n (Ok (Inner (Decision x) p)) e) rest

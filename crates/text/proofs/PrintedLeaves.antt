@@ -16,11 +16,9 @@ use Rattle.text.specs.Syntax.{decimal, print_form, constant_form, literal_form, 
 use Rattle.text.specs.Words.{spelling}
 use Rattle.text.specs.declared.answer.Fault.{Fault}
 use Rattle.text.specs.declared.answer.Fault.TheVariants.{Nodes, Range, Reference}
-use Rattle.text.specs.declared.answer.Step.TheVariants.{Made}
-use Rattle.text.specs.declared.head.InRange.TheVariants.{Inside, Unfit}
 use Rattle.text.specs.declared.head.Limits.{Limits}
 use Rattle.text.specs.declared.head.Opening.{Opening}
-use Rattle.text.specs.declared.head.Opening.TheVariants.{Leaf, Broken, Line}
+use Rattle.text.specs.declared.head.Opening.TheVariants.{Leaf, Line}
 use Rattle.text.specs.declared.head.Role.{Role}
 use Rattle.text.specs.declared.head.Role.TheVariants.{Argument}
 use Rattle.text.specs.declared.head.Word.{Word}
@@ -30,18 +28,21 @@ use Rattle.text.proofs.FirstFault.{StepRead}
 use Rattle.text.proofs.Pieces.{Here, byte, past, next, ranged, opening}
 use Rattle.text.proofs.Spelling.{constant-flat, literal-flat, line-flat}
 use Rattle.text.proofs.Words.{LineMay, May}
+use Rattle.std.specs.Prelude.{Result, Ok}
+use Rattle.text.specs.declared.answer.Misread.{Misread}
+use Rattle.text.specs.Answers.{misread, formed}
 
 module _ (s : List ℕ) where
   -- a printed number, by its bound
   pub range-read : (x high end at : ℕ) (why : Fault) (r : List ℕ) → x < 10000 → end < 48 → Here s at (decimal x ++ (end ∷ r))
-      → ranged_at s at 0 high end why ≡ cond (ltb x high) (Inside x (at + length (decimal x))) (Unfit why (at + length (decimal x)))
+      → ranged_at s at 0 high end why ≡ cond (ltb x high) (Ok (x, at + length (decimal x))) (misread why (at + length (decimal x)))
   range-read x high end at why r lx le h = ranged s x 0 high end at why r lx le h ∙ by (dec_lt x high)
     where
       p : ℕ
       p = at + length (decimal x)
 
-      by : Dec (x < high) → cond (ltb x 0) (Unfit why p) (cond (leb high x) (Unfit why p) (Inside x p))
-          ≡ cond (ltb x high) (Inside x p) (Unfit why p)
+      by : Dec (x < high) → cond {A = Result (ℕ × ℕ) Misread} (ltb x 0) (misread why p) (cond (leb high x) (misread why p) (Ok (x, p)))
+          ≡ cond (ltb x high) (Ok (x, p)) (misread why p)
       by (yes l) = rw (le-ltb x 0 (omega arith), lt-leb high x l, lt-ltb x high l)
       by (no l) = rw (le-ltb x 0 (omega arith), le-leb high x (omega arith), le-ltb x high (omega arith))
 
@@ -65,18 +66,19 @@ module _ (s : List ℕ) (N k room : ℕ) (lines : List ℕ) where
           (Nodes, refl, refl)
 
   -- a form by its head
-  pub by-head : (d : ℕ) (role : Role) (at : ℕ) (w : List ℕ) (n : ℕ) (o : Opening) → head_at s at role lim ≡ o
+  pub by-head : (d : ℕ) (role : Role) (at : ℕ) (w : List ℕ) (n : ℕ) (o : Result Opening Misread) → head_at s at role lim ≡ o
       → form_at (suc d) G role at w n ≡ opened_of (form_at d G Argument) G w n o
   unfolding form_at
   by-head d role at w n o h = ap (opened_of (form_at d G Argument) G w n) h
 
   module _ (d : ℕ) (role : Role) (at : ℕ) (w : List ℕ) (n : ℕ) where
     -- a head with no child, and the closing bracket
-    leaf-read : (kd x p : ℕ) (y : Node) (r : List ℕ) → head_at s at role lim ≡ Leaf kd x p → encoded kd x [] ≡ encode y → Here s p (41 ∷ r)
+    leaf-read : (kd x p : ℕ) (y : Node) (r : List ℕ) → head_at s at role lim ≡ Ok (Leaf kd x p) → encoded kd x [] ≡ encode y
+        → Here s p (41 ∷ r)
         → StepRead (unless (ltb n room) 15 p) (made p w n (encode y)) (form_at (suc d) G role at w n)
     leaf-read kd x p y r e i h =
         subst (StepRead (unless (ltb n room) 15 p) (made p w n (encode y)))
-        (ap (close_at s p w n room) (sym i) ∙ sym (by-head d role at w n (Leaf kd x p) e)) (close-read p w n (encode y) r h)
+        (ap (close_at s p w n room) (sym i) ∙ sym (by-head d role at w n (Ok (Leaf kd x p)) e)) (close-read p w n (encode y) r h)
 
     pub constant-read : (v : Bool) (r : List ℕ) → Here s at (print_form (constant_form v) ++ r)
         → let p : ℕ = at + 1 + length (spelling (cond v True False)) in
@@ -93,7 +95,7 @@ module _ (s : List ℕ) (N k room : ℕ) (lines : List ℕ) where
         may true = tt
         may false = tt
 
-        tail : (v : Bool) (p : ℕ) → tail_at s p (cond v True False) lim ≡ Leaf (cond v 1 0) 0 p
+        tail : (v : Bool) (p : ℕ) → tail_at s p (cond v True False) lim ≡ Ok (Leaf (cond v 1 0) 0 p)
         tail true p = refl
         tail false p = refl
 
@@ -137,7 +139,7 @@ module _ (s : List ℕ) (N k room : ℕ) (lines : List ℕ) where
         h₂ : Here s q (decimal x ++ (41 ∷ r))
         h₂ = past s (at + 1) (spelling y) (decimal x ++ (41 ∷ r)) (next s at 40 (spelling y ++ (decimal x ++ (41 ∷ r))) h₁)
 
-        head : head_at s at role lim ≡ leaf_of kd (cond (ltb x N) (Inside x p) (Unfit Range p))
+        head : head_at s at role lim ≡ leaf_of kd (cond (ltb x N) (Ok (x, p)) (misread Range p))
         head =
             opening s y role at lim (decimal x ++ (41 ∷ r)) (may v) h₁ ∙ tail v q
             ∙ ap (leaf_of kd) (range-read s x N 41 q Range r lx (omega arith) h₂)
@@ -147,16 +149,18 @@ module _ (s : List ℕ) (N k room : ℕ) (lines : List ℕ) where
             (form_at (suc d) G role at w n)
         by (yes a) =
             let t : ltb x N ≡ true = lt-ltb x N a in
-            let e : head_at s at role lim ≡ Leaf kd x p = head ∙ ap (λ (b : Bool). leaf_of kd (cond b (Inside x p) (Unfit Range p))) t in
+            let e : head_at s at role lim ≡ Ok (Leaf kd x p) =
+            head ∙ ap (λ (b : Bool). leaf_of kd (cond b (Ok (x, p)) (misread Range p))) t in
             rw t (leaf-read kd x p (literal v x) r e (words v) (past s q (decimal x) (41 ∷ r) h₂))
         by (no a) =
             let t : ltb x N ≡ false = le-ltb x N (omega arith) in
-            let e : head_at s at role lim ≡ Broken Range p = head ∙ ap (λ (b : Bool). leaf_of kd (cond b (Inside x p) (Unfit Range p))) t in
-            rw (t, by-head d role at w n (Broken Range p) e) (Range, refl, refl)
+            let e : head_at s at role lim ≡ misread Range p =
+            head ∙ ap (λ (b : Bool). leaf_of kd (cond b (Ok (x, p)) (misread Range p))) t in
+            rw (t, by-head d role at w n (misread Range p) e) (Range, refl, refl)
 
     pub line_read : (j : ℕ) (r : List ℕ) → j < 10000 → LineMay role → Here s at (print_form (line_form j) ++ r)
         → let p : ℕ = at + 6 + length (decimal j) in
-        StepRead (unless (ltb j k) 13 p) (record { step = Made (p + 1) n (get_or lines j 0); words = w }) (form_at (suc d) G role at w n)
+        StepRead (unless (ltb j k) 13 p) (record { step = formed (p + 1) n (get_or lines j 0); words = w }) (form_at (suc d) G role at w n)
     unfolding tail_at
     line_read j r lj l h = by (dec_lt j k)
       where
@@ -172,20 +176,21 @@ module _ (s : List ℕ) (N k room : ℕ) (lines : List ℕ) where
         six : at + 1 + 5 ≡ at + 6
         six = omega arith
 
-        head : head_at s at role lim ≡ line_of (cond (ltb j k) (Inside j p) (Unfit Reference p))
+        head : head_at s at role lim ≡ line_of (cond (ltb j k) (Ok (j, p)) (misread Reference p))
         head =
             opening s LineWord role at lim (decimal j ++ (41 ∷ r)) l h₁
             ∙ ap (λ (q : ℕ). line_of (ranged_at s q 0 k 41 Reference)) six
             ∙ ap line_of (range-read s j k 41 (at + 6) Reference r lj (omega arith) h₂)
 
-        by : Dec (j < k) → StepRead (unless (ltb j k) 13 p) (record { step = Made (p + 1) n (get_or lines j 0); words = w })
+        by : Dec (j < k) → StepRead (unless (ltb j k) 13 p) (record { step = formed (p + 1) n (get_or lines j 0); words = w })
             (form_at (suc d) G role at w n)
         by (yes a) =
             let t : ltb j k ≡ true = lt-ltb j k a in
-            let e : head_at s at role lim ≡ Line j p = head ∙ ap (λ (b : Bool). line_of (cond b (Inside j p) (Unfit Reference p))) t in
-            rw (t, by-head d role at w n (Line j p) e)
+            let e : head_at s at role lim ≡ Ok (Line j p) =
+            head ∙ ap (λ (b : Bool). line_of (cond b (Ok (j, p)) (misread Reference p))) t in
+            rw (t, by-head d role at w n (Ok (Line j p)) e)
         by (no a) =
             let t : ltb j k ≡ false = le-ltb j k (omega arith) in
-            let e : head_at s at role lim ≡ Broken Reference p =
-            head ∙ ap (λ (b : Bool). line_of (cond b (Inside j p) (Unfit Reference p))) t in
-            rw (t, by-head d role at w n (Broken Reference p) e) (Reference, refl, refl)
+            let e : head_at s at role lim ≡ misread Reference p =
+            head ∙ ap (λ (b : Bool). line_of (cond b (Ok (j, p)) (misread Reference p))) t in
+            rw (t, by-head d role at w n (misread Reference p) e) (Reference, refl, refl)

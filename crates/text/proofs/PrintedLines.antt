@@ -18,8 +18,6 @@ use Rattle.text.specs.Read.{byte_at, setting, form_at, answers, line_end, lines_
 use Rattle.text.specs.Syntax.{print_form, print_lines, FormFits, FormsFit, Own, GrammaticalLines, makes, operator_node, compile_form}
 use Rattle.text.specs.Syntax.{compile_forms, compile_lines, Compiled, CompiledForms, Form, Forms, constant_form, literal_form}
 use Rattle.text.specs.Syntax.{inner_form, line_form, none, more}
-use Rattle.text.specs.declared.answer.Step.{Step}
-use Rattle.text.specs.declared.answer.Step.TheVariants.{Made}
 use Rattle.text.specs.declared.head.Role.TheVariants.{OwnForm}
 use Rattle.text.proofs.Clean.{form-clean}
 use Rattle.text.proofs.CompiledWords.{compile-nodes, compile-length, sets_behind}
@@ -27,6 +25,10 @@ use Rattle.text.proofs.FirstFault.{StepRead}
 use Rattle.text.proofs.Pieces.{Here, byte, ended, past, next}
 use Rattle.text.proofs.Printed.{form-read}
 use Rattle.text.proofs.Spelling.{begins}
+use Rattle.std.specs.Prelude.{Result}
+use Rattle.text.specs.declared.answer.Misread.{Misread}
+use Rattle.text.specs.declared.answer.Formed.{Formed}
+use Rattle.text.specs.Answers.{formed}
 
 -- what is read: the first of the faults, or else the good result
 abbrev pub AnswerRead : List (ℕ × ℕ) → ReadOut → ReadOut → Type 0
@@ -88,7 +90,7 @@ module _ (s : List ℕ) (N room : ℕ) (small : room ≤ 1024) where
   abbrev after_line : ℕ → ℕ → ℕ → ℕ → List ℕ → List ℕ → Form → ReadOut
   after_line left k at n w lines f =
       line_end (λ p m a v. lines_at left s N room (set lines k a) (k + 1) p m v) s N (sets w (words_for n) (compile_form lines n f).words)
-      (Made (at + length (print_form f)) (n + nodes_in f) (compile_form lines n f).node)
+      (formed (at + length (print_form f)) (n + nodes_in f) (compile_form lines n f).node)
 
   line_read : (f : Form) (left k at n : ℕ) (w lines : List ℕ) (gs : List (ℕ × ℕ)) (good : ReadOut) (r : List ℕ)
       → FormFits 10000 10000 f → Own f → Here s at (print_form f ++ r)
@@ -101,13 +103,13 @@ module _ (s : List ℕ) (N room : ℕ) (small : room ≤ 1024) where
       x : Stepped
       x = form_at 16 (setting s lines (record { variables = N; room = room; earlier = k })) OwnForm at w n
 
-      after : List ℕ → Step → ReadOut
+      after : List ℕ → Result Formed Misread → ReadOut
       after v t = line_end (λ p m a v. lines_at left s N room (set lines k a) (k + 1) p m v) s N v t
 
       fine : Stepped
       fine =
           record {
-            step = Made (at + length (print_form f)) (n + nodes_in f) (compile_form lines n f).node;
+            step = formed (at + length (print_form f)) (n + nodes_in f) (compile_form lines n f).node;
             words = sets w (words_for n) (compile_form lines n f).words;
           }
 
@@ -115,7 +117,7 @@ module _ (s : List ℕ) (N room : ℕ) (small : room ≤ 1024) where
           → AnswerRead (fs ++ gs) good (after x.words x.step)
       go [] e y = subst (λ (z : Stepped). AnswerRead gs good (after z.words z.step)) (sym y) (rest e)
       go (e ∷ fs) i (u, c, y) =
-          ap (λ (t : Step). (after x.words t).answer) y ∙ ap (λ (z : ℕ). refused z e.1) c
+          ap (λ (t : Result Formed Misread). (after x.words t).answer) y ∙ ap (λ (z : ℕ). refused z e.1) c
 
   -- the words of a line, and then of the lines that follow it
   line-words : (f : Form) (earlier lines : List ℕ) (w v : List ℕ) (n : ℕ) → FormFits 10000 10000 f

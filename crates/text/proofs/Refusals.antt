@@ -16,8 +16,6 @@ use Rattle.text.specs.Meaning.{Bytes}
 use Rattle.text.specs.Read.{header_at, answers, room_of, settled, body_of, lines_at, ReadOut}
 use Rattle.text.specs.Syntax.{digit_text, decimal, print_operator, print_form, print_forms, print_lines, print, compile, Tree, Grammatical}
 use Rattle.text.specs.Syntax.{Form, Forms, constant_form, literal_form, inner_form, line_form, none, more}
-use Rattle.text.specs.declared.head.InRange.{InRange}
-use Rattle.text.specs.declared.head.InRange.TheVariants.{Inside, Unfit}
 use Rattle.text.specs.declared.head.Operator.{Operator}
 use Rattle.text.specs.declared.head.Operator.TheVariants.{Decision, Conjunction}
 use Rattle.text.proofs.FaultNumbers.{numbered-first, OfTree, tree-numbered}
@@ -26,6 +24,8 @@ use Rattle.text.proofs.PrintedLines.{AnswerRead}
 use Rattle.text.proofs.Readers.{Reader, value_not}
 use Rattle.text.proofs.Texts.{read_body, tree_good, tree-read}
 use Rattle.text.proofs.Viability.{Said, body-said}
+use Rattle.std.specs.Prelude.{Result, Ok, Err}
+use Rattle.text.specs.declared.answer.Misread.{Misread}
 
 -- ---- the bytes of a printed text are bytes
 pub bytes-append : (x y : List ℕ) → Bytes x → Bytes y → Bytes (x ++ y)
@@ -114,7 +114,7 @@ refused-words s m k p = by (header_at s)
     settles w (refused j q) e = ap (λ (z : Outcome (ℕ × ℕ)). answers z (replicate m 0)) e
     settles w (answered v) e = absurd (value_not v k p e)
 
-    by : (x : InRange) → (body_of s m x).answer ≡ refused k p → body_of s m x ≡ answers (refused k p) (replicate m 0)
-    by (Unfit f q) e = ap (λ (z : Outcome (ℕ × ℕ)). answers z (replicate m 0)) e
-    by (Inside N q) e =
+    by : (x : Result (ℕ × ℕ) Misread) → (body_of s m x).answer ≡ refused k p → body_of s m x ≡ answers (refused k p) (replicate m 0)
+    by (Err u) e = ap (λ (z : Outcome (ℕ × ℕ)). answers z (replicate m 0)) e
+    by (Ok (N, q)) e =
         let r : ReadOut = lines_at max_lines s N (room_of m) (replicate max_lines 0) 0 q 0 (replicate m 0) in settles r.words r.answer e

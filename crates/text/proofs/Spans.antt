@@ -18,14 +18,11 @@ use Rattle.text.specs.Read.{byte_at, digit_at, digits_at, number_at, match_at, r
 use Rattle.text.specs.Syntax.{decimal}
 use Rattle.text.specs.declared.answer.Fault.{Fault}
 use Rattle.text.specs.declared.answer.Fault.TheVariants.{Shape}
-use Rattle.text.specs.declared.head.InRange.{InRange}
-use Rattle.text.specs.declared.head.InRange.TheVariants.{Inside, Unfit}
-use Rattle.text.specs.declared.head.Matched.{Matched}
-use Rattle.text.specs.declared.head.Matched.TheVariants.{Past, Differs}
-use Rattle.text.specs.declared.number.Numeral.{Numeral}
-use Rattle.text.specs.declared.number.Numeral.TheVariants.{Value, Missing}
 use Rattle.text.proofs.Grammar.{IsDecimal, IsNumber, one-digit, two_digits, three-digits, four-digits}
 use Rattle.text.proofs.Laws.{inside}
+use Rattle.std.specs.Prelude.{Option, Some, None, Result, Ok, Err}
+use Rattle.text.specs.declared.answer.Misread.{Misread}
+use Rattle.text.specs.Answers.{misread}
 
 -- the place up to which the bytes are viable: before 11, and past the byte of any other fault
 abbrev pub viable_to : ℕ → ℕ → ℕ
@@ -57,13 +54,13 @@ module _ (s : List ℕ) where
       ap (λ (k : ℕ). take k s) (add-one at) ∙ take-suc s at 256 i ∙ ap (λ (c : ℕ). take at s ++ (c ∷ [])) e
 
   -- ---- words and numbers
-  abbrev pub MatchSaid : List ℕ → ℕ → Matched → Type 0
-  MatchSaid w at (Past p) = Span at p w
-  MatchSaid w at (Differs p) = (x : List ℕ) × (t : List ℕ) × (w ≡ x ++ t) × Span at p x
+  abbrev pub MatchSaid : List ℕ → ℕ → Result ℕ ℕ → Type 0
+  MatchSaid w at (Ok p) = Span at p w
+  MatchSaid w at (Err p) = (x : List ℕ) × (t : List ℕ) × (w ≡ x ++ t) × Span at p x
 
-  match-more : (b : ℕ) (w : List ℕ) (at : ℕ) (x : Matched) → Span at (at + 1) (b ∷ []) → MatchSaid w (at + 1) x → MatchSaid (b ∷ w) at x
-  match-more b w at (Past p) a h = join at (at + 1) p (b ∷ []) w a h
-  match-more b w at (Differs p) a (x, t, e, sp) =
+  match-more : (b : ℕ) (w : List ℕ) (at : ℕ) (x : Result ℕ ℕ) → Span at (at + 1) (b ∷ []) → MatchSaid w (at + 1) x → MatchSaid (b ∷ w) at x
+  match-more b w at (Ok p) a h = join at (at + 1) p (b ∷ []) w a h
+  match-more b w at (Err p) a (x, t, e, sp) =
       (b ∷ x, t, ap (λ (z : List ℕ). b ∷ z) e, join at (at + 1) p (b ∷ []) x a sp)
 
   pub match-said : (w : List ℕ) (at : ℕ) → Bytes w → MatchSaid w at (match_at s at w)
@@ -72,7 +69,7 @@ module _ (s : List ℕ) where
   match-said (b ∷ w) at l = by (same? (byte_at s at) b) (match-said w (at + 1) l.1)
     where
       by : (byte_at s at ≡ b) ⊎ (byte_at s at ≢ b) → MatchSaid w (at + 1) (match_at s (at + 1) w)
-          → MatchSaid (b ∷ w) at (cond (eqb (byte_at s at) b) (match_at s (at + 1) w) (Differs at))
+          → MatchSaid (b ∷ w) at (cond (eqb (byte_at s at) b) (match_at s (at + 1) w) (Err at))
       by (inl e) h = rw (eq-eqb (byte_at s at) b e) (match-more b w at (match_at s (at + 1) w) (one_byte at b l.0 e) h)
       by (inr n) h = rw (ne_eqb (byte_at s at) b n) ([], b ∷ w, refl, nothing at)
 
@@ -90,11 +87,11 @@ module _ (s : List ℕ) where
           let g : byte_at s at - 48 ≡ d = sym f ∙ e in
           omega arith
 
-  abbrev pub NumberSaid : ℕ → Numeral → Type 0
-  NumberSaid at Missing = Unit {0}
-  NumberSaid at (Value v p) = (v < 10000) × Span at p (decimal v)
+  abbrev pub NumberSaid : ℕ → Option (ℕ × ℕ) → Type 0
+  NumberSaid at None = Unit {0}
+  NumberSaid at (Some (v, p)) = (v < 10000) × Span at p (decimal v)
 
-  digits-done : (start at v : ℕ) (x : List ℕ) → IsDecimal v x → Span start at x → NumberSaid start (Value v at)
+  digits-done : (start at v : ℕ) (x : List ℕ) → IsDecimal v x → Span start at x → NumberSaid start (Some (v, at))
   digits-done start at v x (l, e) sx = (l, sx ∙ ap (λ (z : List ℕ). take start s ++ z) (sym e))
 
   digits_step : (k start at v : ℕ) (x : List ℕ) → IsDecimal v x → Span start at x
@@ -104,7 +101,7 @@ module _ (s : List ℕ) where
   digits_step k start at v x nx sx more = by (same? (digit_at s at) 10)
     where
       by : (digit_at s at ≡ 10) ⊎ (digit_at s at ≢ 10)
-          → NumberSaid start (cond (eqb (digit_at s at) 10) (Value v at) (digits_at k s (at + 1) (10 * v + digit_at s at)))
+          → NumberSaid start (cond (eqb (digit_at s at) 10) (Some (v, at)) (digits_at k s (at + 1) (10 * v + digit_at s at)))
       by (inl e) = rw (eq-eqb (digit_at s at) 10 e) (digits-done start at v x nx sx)
       by (inr n) =
           let d = digit-said at (digit_at s at) refl n in
@@ -120,7 +117,7 @@ module _ (s : List ℕ) where
       a = digit_at s at
 
       by : (a ≡ 10) ⊎ (a ≢ 10) → (a ≡ 0) ⊎ (a ≢ 0)
-          → NumberSaid at (cond (eqb a 10) Missing (cond (eqb a 0) (Value 0 (at + 1)) (digits_at 3 s (at + 1) a)))
+          → NumberSaid at (cond (eqb a 10) None (cond (eqb a 0) (Some (0, at + 1)) (digits_at 3 s (at + 1) a)))
       by (inl e) z = rw (eq-eqb a 10 e) tt
       by (inr n) (inl z) =
           let d = digit-said at a refl n in
@@ -141,16 +138,16 @@ module _ (s : List ℕ) where
           digits-done at (at + 1 + 1 + 1 + 1) (10 * (10 * (10 * a + b) + c) + e) ((48 + a) ∷ (48 + b) ∷ (48 + c) ∷ (48 + e) ∷ [])
           (four-digits a b c e za la lb lc le) se))))
 
-  abbrev pub RangedSaid : ℕ → ℕ → InRange → Type 0
-  RangedSaid end at (Inside v p) = (x : List ℕ) × IsNumber x × Span at p x × (byte_at s p ≡ end)
-  RangedSaid end at (Unfit f p) =
-      (x : List ℕ) × (t : List ℕ) × (v : List ℕ) × IsNumber v × (v ++ (end ∷ []) ≡ x ++ t) × Span at (viable_at f p) x
+  abbrev pub RangedSaid : ℕ → ℕ → Result (ℕ × ℕ) Misread → Type 0
+  RangedSaid end at (Ok (v, p)) = (x : List ℕ) × IsNumber x × Span at p x × (byte_at s p ≡ end)
+  RangedSaid end at (Err e) =
+      (x : List ℕ) × (t : List ℕ) × (v : List ℕ) × IsNumber v × (v ++ (end ∷ []) ≡ x ++ t) × Span at (viable_at e.0 e.1) x
 
   ranged-value : (at low high end : ℕ) (why : Fault) (n p : ℕ) (x : List ℕ) → end < 256 → fault_number why ≢ 11 → IsNumber x → Span at p x
-      → RangedSaid end at (ranged_of s at low high end why (Value n p))
+      → RangedSaid end at (ranged_of s at low high end why (Some (n, p)))
   ranged-value at low high end why n p x le nf nx sx = by (same? (byte_at s p) end) (dec_lt n low) (dec_le high n)
     where
-      range : byte_at s p ≡ end → RangedSaid end at (Unfit why p)
+      range : byte_at s p ≡ end → RangedSaid end at (misread why p)
       range e = (
         x ++ (end ∷ []),
         [],
@@ -162,7 +159,7 @@ module _ (s : List ℕ) where
 
       by : (byte_at s p ≡ end) ⊎ (byte_at s p ≢ end) → Dec (n < low) → Dec (high ≤ n)
           → RangedSaid end at (cond (eqb (byte_at s p) end)
-          (cond (ltb n low) (Unfit why p) (cond (leb high n) (Unfit why p) (Inside n p))) (Unfit Shape p))
+          (cond (ltb n low) (misread why p) (cond (leb high n) (misread why p) (Ok (n, p)))) (misread Shape p))
       by (inr e) l h = rw (ne_eqb (byte_at s p) end e) (x, end ∷ [], x, nx, refl, sx)
       by (inl e) (yes l) h = rw (eq-eqb (byte_at s p) end e, lt-ltb n low l) (range e)
       by (inl e) (no l) (yes h) = rw (eq-eqb (byte_at s p) end e, le-ltb n low (omega arith), le-leb high n h) (range e)
@@ -173,6 +170,6 @@ module _ (s : List ℕ) where
   unfolding ranged_at
   ranged-said at low high end why le nf = by (number_at s at) (number-said at)
     where
-      by : (y : Numeral) → NumberSaid at y → RangedSaid end at (ranged_of s at low high end why y)
-      by Missing h = ([], 48 ∷ end ∷ [], 48 ∷ [], (0, one-digit 0 (omega arith)), refl, nothing at)
-      by (Value n p) (l, sp) = ranged-value at low high end why n p (decimal n) le nf (n, (l, refl)) sp
+      by : (y : Option (ℕ × ℕ)) → NumberSaid at y → RangedSaid end at (ranged_of s at low high end why y)
+      by None h = ([], 48 ∷ end ∷ [], 48 ∷ [], (0, one-digit 0 (omega arith)), refl, nothing at)
+      by (Some (n, p)) (l, sp) = ranged-value at low high end why n p (decimal n) le nf (n, (l, refl)) sp

@@ -20,9 +20,10 @@ use Rattle.text.specs.Limits.{max_lines}
 use Rattle.text.specs.Read.{byte_at, answers, lines_at, header_then, header_of, header_at, room_of, settled, body_of, ReadOut}
 use Rattle.text.specs.Syntax.{decimal, print_lines, print, GrammaticalLines, compile_lines, compile, Tree, Grammatical, Form}
 use Rattle.text.specs.declared.answer.Fault.TheVariants.{Shape, Range}
-use Rattle.text.specs.declared.head.InRange.TheVariants.{Inside, Unfit}
 use Rattle.text.proofs.Pieces.{Here, byte, past, next, matched, ranged}
 use Rattle.text.proofs.PrintedLines.{AnswerRead, lines-read}
+use Rattle.std.specs.Prelude.{Ok}
+use Rattle.text.specs.Answers.{misread}
 
 pub header-flat : (t : Tree) → print t ≡ ascii "(circuit " ++ (decimal t.variables ++ (41 ∷ 10 ∷ print_lines t.lines))
 unfolding print
@@ -79,7 +80,7 @@ tree-read t m gr = by (dec_le 1 N) (dec_le N 40)
     h₄ : Here s (p + 2) (print_lines t.lines)
     h₄ = past s p (41 ∷ 10 ∷ []) (print_lines t.lines) h₂
 
-    header : header_at s ≡ header_then s (cond (ltb N 1) (Unfit Range p) (cond (leb 41 N) (Unfit Range p) (Inside N p)))
+    header : header_at s ≡ header_then s (cond (ltb N 1) (misread Range p) (cond (leb 41 N) (misread Range p) (Ok (N, p))))
     header =
         ap (header_of s) (matched s (ascii "(circuit ") (decimal N ++ (41 ∷ rest)) 0 h₀)
         ∙ ap (header_then s) (ranged s N 1 41 41 9 Range rest gr.header (omega arith) h₁)
@@ -87,13 +88,13 @@ tree-read t m gr = by (dec_le 1 N) (dec_le N 40)
     faults : List (ℕ × ℕ)
     faults = unless (leb 1 N && leb N 40) 12 p ++ lines_faults N (room_of m) 0 (p + 2) 0 t.lines
 
-    out : header_at s ≡ Unfit Range p → leb 1 N && leb N 40 ≡ false → AnswerRead faults (tree_good t m) (body_of s m (header_at s))
+    out : header_at s ≡ misread Range p → leb 1 N && leb N 40 ≡ false → AnswerRead faults (tree_good t m) (body_of s m (header_at s))
     out e f = rw (f, e)
 
     lines : (fs : List Form) → t.lines ≡ fs → fs ≢ [] → GrammaticalLines fs → Here s (p + 2) (print_lines fs) → 1 ≤ N
         → AnswerRead (lines_faults N (room_of m) 0 (p + 2) 0 fs)
         (answers (answered (N, (compile_lines [] 0 fs).nodes)) (sets (replicate m 0) 0 (compile_lines [] 0 fs).words))
-        (body_of s m (Inside N (p + 2)))
+        (body_of s m (Ok (N, p + 2)))
     lines [] e n g h l = absurd (n refl)
     lines (f ∷ fs) e n g h l =
         settled-read m (lines_faults N (room_of m) 0 (p + 2) 0 (f ∷ fs)) (N, (compile_lines [] 0 (f ∷ fs)).nodes)
@@ -104,19 +105,19 @@ tree-read t m gr = by (dec_le 1 N) (dec_le N 40)
 
     by : Dec (1 ≤ N) → Dec (N ≤ 40) → AnswerRead faults (tree_good t m) (body_of s m (header_at s))
     by (no a) b =
-        out (header ∙ ap (λ (z : Bool). header_then s (cond z (Unfit Range p) (cond (leb 41 N) (Unfit Range p) (Inside N p))))
+        out (header ∙ ap (λ (z : Bool). header_then s (cond z (misread Range p) (cond (leb 41 N) (misread Range p) (Ok (N, p)))))
         (lt-ltb N 1 (omega arith)))
         (ap (λ (z : Bool). z && leb N 40) (lt-leb 1 N (omega arith)))
     by (yes a) (no b) =
         out (header
-        ∙ ap₂ (λ (y z : Bool). header_then s (cond y (Unfit Range p) (cond z (Unfit Range p) (Inside N p)))) (le-ltb N 1 a)
+        ∙ ap₂ (λ (y z : Bool). header_then s (cond y (misread Range p) (cond z (misread Range p) (Ok (N, p))))) (le-ltb N 1 a)
         (le-leb 41 N (omega arith)))
         (ap₂ ◌&&◌ (le-leb 1 N a) (lt-leb N 40 (omega arith)))
     by (yes a) (yes b) =
-        let e : header_at s ≡ Inside N (p + 2) =
+        let e : header_at s ≡ Ok (N, p + 2) =
         header
-        ∙ ap₂ (λ (y z : Bool). header_then s (cond y (Unfit Range p) (cond z (Unfit Range p) (Inside N p)))) (le-ltb N 1 a)
+        ∙ ap₂ (λ (y z : Bool). header_then s (cond y (misread Range p) (cond z (misread Range p) (Ok (N, p))))) (le-ltb N 1 a)
         (lt-leb 41 N (omega arith))
-        ∙ ap (λ (z : Bool). cond z (Inside N (p + 2)) (Unfit Shape (p + 1)))
+        ∙ ap (λ (z : Bool). cond z (Ok (N, p + 2)) (misread Shape (p + 1)))
         (eq-eqb (byte_at s (p + 1)) 10 (byte s (p + 1) 10 (print_lines t.lines) h₃)) in
         rw (le-leb 1 N a, le-leb N 40 b, e) (lines t.lines refl gr.some gr.each h₄ a)

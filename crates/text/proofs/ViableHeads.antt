@@ -14,23 +14,19 @@ use Rattle.text.specs.Read.{byte_at, match_at, ranged_at, leaf_of, decision_of, 
 use Rattle.text.specs.Syntax.{print_form}
 use Rattle.text.specs.Words.{spelling, head_words, or_word}
 use Rattle.text.specs.declared.answer.Fault.TheVariants.{Range, Reference}
-use Rattle.text.specs.declared.head.InRange.{InRange}
-use Rattle.text.specs.declared.head.InRange.TheVariants.{Inside, Unfit}
 use Rattle.text.specs.declared.head.Limits.{Limits}
-use Rattle.text.specs.declared.head.Matched.{Matched}
-use Rattle.text.specs.declared.head.Matched.TheVariants.{Past, Differs}
 use Rattle.text.specs.declared.head.Opening.{Opening}
-use Rattle.text.specs.declared.head.Opening.TheVariants.{Broken, Leaf, Inner, Line}
+use Rattle.text.specs.declared.head.Opening.TheVariants.{Leaf, Inner, Line}
 use Rattle.text.specs.declared.head.Operator.TheVariants.{Decision, Conjunction}
 use Rattle.text.specs.declared.head.Role.{Role}
-use Rattle.text.specs.declared.head.Spelled.{Spelled}
-use Rattle.text.specs.declared.head.Spelled.TheVariants.{Is, None}
 use Rattle.text.specs.declared.head.Word.{Word}
 use Rattle.text.specs.declared.head.Word.TheVariants.{False, True, Yes, No, Pick, Both, Line as LineWord}
 use Rattle.text.proofs.Grammar.{IsNumber, IsForm, IsRest, one-digit, constant-form, literal-form, inner-form, decision-form}
 use Rattle.text.proofs.Grammar.{line-form, true_text, true_text_lem, two_forms, two-forms}
 use Rattle.text.proofs.Spans.{viable_at, Span, join, nothing, one_byte, MatchSaid, match-said, RangedSaid, ranged-said}
 use Rattle.text.proofs.Words.{May, Each, each-may}
+use Rattle.std.specs.Prelude.{Result, Ok, Err}
+use Rattle.text.specs.declared.answer.Misread.{Misread}
 
 -- how a form goes on after its word
 going_on : Word → List ℕ
@@ -62,11 +58,11 @@ word_bytes Both = omega arith
 word_bytes LineWord = omega arith
 
 module _ (s : List ℕ) where
-  abbrev pub OpenSaid : Role → ℕ → Opening → Type 0
-  OpenSaid role at (Broken f p) = (x : List ℕ) × (t : List ℕ) × IsForm role (x ++ t) × Span s at (viable_at f p) x
-  OpenSaid role at (Leaf k v p) = (x : List ℕ) × IsForm role (x ++ (41 ∷ [])) × Span s at p x
-  OpenSaid role at (Line k p) = (x : List ℕ) × IsForm role (x ++ (41 ∷ [])) × Span s at p x × (byte_at s p ≡ 41)
-  OpenSaid role at (Inner op p) = (x : List ℕ) × ((y : List ℕ) → IsRest op 0 y → IsForm role (x ++ y)) × Span s at p x
+  abbrev pub OpenSaid : Role → ℕ → Result Opening Misread → Type 0
+  OpenSaid role at (Err e) = (x : List ℕ) × (t : List ℕ) × IsForm role (x ++ t) × Span s at (viable_at e.0 e.1) x
+  OpenSaid role at (Ok (Leaf k v p)) = (x : List ℕ) × IsForm role (x ++ (41 ∷ [])) × Span s at p x
+  OpenSaid role at (Ok (Line k p)) = (x : List ℕ) × IsForm role (x ++ (41 ∷ [])) × Span s at p x × (byte_at s p ≡ 41)
+  OpenSaid role at (Ok (Inner op p)) = (x : List ℕ) × ((y : List ℕ) → IsRest op 0 y → IsForm role (x ++ y)) × Span s at p x
 
   -- a number after the word W, before a closing bracket
   module _ (role : Role) (at q : ℕ) (W : List ℕ) (sw : Span s at q W)
@@ -77,20 +73,20 @@ module _ (s : List ℕ) where
     broken-number : (x t v : List ℕ) → IsNumber v → v ++ (41 ∷ []) ≡ x ++ t → IsForm role ((W ++ x) ++ t)
     broken-number x t v nv e = subst (IsForm role) (ap (λ (z : List ℕ). W ++ z) e ∙ sym (append_assoc W x t)) (F v nv)
 
-    leaf-by : (k : ℕ) (y : InRange) → RangedSaid s 41 q y → OpenSaid role at (leaf_of k y)
-    leaf-by k (Inside n p) (x, nx, sx, b) = (W ++ x, read_number x nx, join s at q p W x sw sx)
-    leaf-by k (Unfit f p) (x, t, v, nv, e, sx) = (W ++ x, t, broken-number x t v nv e, join s at q (viable_at f p) W x sw sx)
+    leaf-by : (k : ℕ) (y : Result (ℕ × ℕ) Misread) → RangedSaid s 41 q y → OpenSaid role at (leaf_of k y)
+    leaf-by k (Ok (n, p)) (x, nx, sx, b) = (W ++ x, read_number x nx, join s at q p W x sw sx)
+    leaf-by k (Err m) (x, t, v, nv, e, sx) = (W ++ x, t, broken-number x t v nv e, join s at q (viable_at m.0 m.1) W x sw sx)
 
-    line-by : (y : InRange) → RangedSaid s 41 q y → OpenSaid role at (line_of y)
-    line-by (Inside n p) (x, nx, sx, b) = (W ++ x, read_number x nx, join s at q p W x sw sx, b)
-    line-by (Unfit f p) (x, t, v, nv, e, sx) = (W ++ x, t, broken-number x t v nv e, join s at q (viable_at f p) W x sw sx)
+    line-by : (y : Result (ℕ × ℕ) Misread) → RangedSaid s 41 q y → OpenSaid role at (line_of y)
+    line-by (Ok (n, p)) (x, nx, sx, b) = (W ++ x, read_number x nx, join s at q p W x sw sx, b)
+    line-by (Err m) (x, t, v, nv, e, sx) = (W ++ x, t, broken-number x t v nv e, join s at q (viable_at m.0 m.1) W x sw sx)
 
   decision-by : (role : Role) (at q : ℕ) (W : List ℕ) → Span s at q W
       → ((v : ℕ) (x y : List ℕ) → IsNumber x → IsRest (Decision v) 0 y → IsForm role (W ++ (x ++ y)))
-      → (u : InRange) → RangedSaid s 32 q u → OpenSaid role at (decision_of u)
-  decision-by role at q W sw F (Inside n p) (x, nx, sx, b) =
+      → (u : Result (ℕ × ℕ) Misread) → RangedSaid s 32 q u → OpenSaid role at (decision_of u)
+  decision-by role at q W sw F (Ok (n, p)) (x, nx, sx, b) =
       (W ++ x, (λ y r. subst (IsForm role) (sym (append_assoc W x y)) (F n x y nx r)), join s at q p W x sw sx)
-  decision-by role at q W sw F (Unfit f p) (x, t, v, nv, e, sx) =
+  decision-by role at q W sw F (Err m) (x, t, v, nv, e, sx) =
       let rest : List ℕ = ascii "(true) (true))" in
       let i : v ++ (32 ∷ rest) ≡ x ++ (t ++ rest) =
       sym (append_assoc v (32 ∷ []) rest) ∙ ap (λ (z : List ℕ). z ++ rest) e ∙ append_assoc x t rest in (
@@ -98,22 +94,22 @@ module _ (s : List ℕ) where
         t ++ rest,
         subst (IsForm role) (ap (λ (z : List ℕ). W ++ z) i ∙ sym (append_assoc W x (t ++ rest)))
             (F 0 v two_forms nv (two-forms (Decision 0))),
-        join s at q (viable_at f p) W x sw sx,
+        join s at q (viable_at m.0 m.1) W x sw sx,
       )
 
   -- the word that is read, or the beginning of one that may stand there
-  abbrev WordSaid : Role → ℕ → Spelled → Type 0
-  WordSaid role at (Is w p) = May role w × Span s at p (spelling w)
-  WordSaid role at (None p) =
+  abbrev WordSaid : Role → ℕ → Result (Word × ℕ) ℕ → Type 0
+  WordSaid role at (Ok (w, p)) = May role w × Span s at p (spelling w)
+  WordSaid role at (Err p) =
       (w : Word) × (x : List ℕ) × (t : List ℕ) × May role w × (spelling w ≡ x ++ t) × Span s at p x
 
-  or-said : (role : Role) (at : ℕ) (w : Word) (m : Matched) (others : Spelled) → May role w → MatchSaid s (spelling w) at m
+  or-said : (role : Role) (at : ℕ) (w : Word) (m : Result ℕ ℕ) (others : Result (Word × ℕ) ℕ) → May role w → MatchSaid s (spelling w) at m
       → WordSaid role at others → WordSaid role at (or_word w m others)
-  or-said role at w (Past p) others y h k = (y, h)
-  or-said role at w (Differs p) (Is v q) y h k = k
-  or-said role at w (Differs p) (None q) y (x, t, e, sp) k = by (dec_le q p)
+  or-said role at w (Ok p) others y h k = (y, h)
+  or-said role at w (Err p) (Ok (v, q)) y h k = k
+  or-said role at w (Err p) (Err q) y (x, t, e, sp) k = by (dec_le q p)
     where
-      by : Dec (q ≤ p) → WordSaid role at (None (max p q))
+      by : Dec (q ≤ p) → WordSaid role at (Err (max p q))
       by (yes l) = let e₁ : max p q ≡ p = omega arith in rw e₁ (w, x, t, y, e, sp)
       by (no l) = let e₁ : max p q ≡ q = omega arith in rw e₁ k
 
@@ -143,9 +139,9 @@ module _ (s : List ℕ) where
         line-by role at p (40 ∷ spelling LineWord) sp (λ v nv. line-form role v m nv) (ranged_at s p 0 g.earlier 41 Reference)
         (ranged-said s p 0 g.earlier 41 Reference (omega arith) (omega arith))
 
-    word-by : byte_at s at ≡ 40 → (x : Spelled) → WordSaid role (at + 1) x → OpenSaid role at (word_then s g x)
-    word-by e (Is w p) (m, sp) = tail-said p w m (join s at (at + 1) p (40 ∷ []) (spelling w) (one_byte s at 40 (omega arith) e) sp)
-    word-by e (None p) (w, x, t, m, i, sp) =
+    word-by : byte_at s at ≡ 40 → (x : Result (Word × ℕ) ℕ) → WordSaid role (at + 1) x → OpenSaid role at (word_then s g x)
+    word-by e (Ok (w, p)) (m, sp) = tail-said p w m (join s at (at + 1) p (40 ∷ []) (spelling w) (one_byte s at 40 (omega arith) e) sp)
+    word-by e (Err p) (w, x, t, m, i, sp) =
         let j : spelling w ++ going_on w ≡ x ++ (t ++ going_on w) =
         ap (λ (z : List ℕ). z ++ going_on w) i ∙ append_assoc x t (going_on w) in (
           40 ∷ x,

@@ -11,14 +11,11 @@ use borrow.Author.Tests.{eq-eqb, ne_eqb}
 use Rattle.masks.proofs.Tests.{same?}
 use Rattle.text.specs.Read.{byte_at, match_at, word_at}
 use Rattle.text.specs.Words.{spelling, head_words, or_word}
-use Rattle.text.specs.declared.head.Matched.{Matched}
-use Rattle.text.specs.declared.head.Matched.TheVariants.{Past, Differs}
 use Rattle.text.specs.declared.head.Role.{Role}
 use Rattle.text.specs.declared.head.Role.TheVariants.{OwnForm, Argument}
-use Rattle.text.specs.declared.head.Spelled.{Spelled}
-use Rattle.text.specs.declared.head.Spelled.TheVariants.{Is, None}
 use Rattle.text.specs.declared.head.Word.{Word}
 use Rattle.text.specs.declared.head.Word.TheVariants.{False, True, Yes, No, Pick, Both, Line}
+use Rattle.std.specs.Prelude.{Result, Ok, Err}
 
 -- ---- the words that may stand
 abbrev pub LineMay : Role → Type 0
@@ -44,14 +41,14 @@ each-may Argument = (tt, (tt, (tt, (tt, (tt, (tt, (tt, tt)))))))
 
 -- what is read is one of the words
 module _ (P : Word → Type 0) where
-  abbrev pub OneOf : Spelled → Type 0
-  OneOf (Is w p) = P w
-  OneOf (None p) = Unit {0}
+  abbrev pub OneOf : Result (Word × ℕ) ℕ → Type 0
+  OneOf (Ok (w, p)) = P w
+  OneOf (Err p) = Unit {0}
 
-  or-one : (w : Word) (m : Matched) (others : Spelled) → P w → OneOf others → OneOf (or_word w m others)
-  or-one w (Past p) others h k = h
-  or-one w (Differs p) (Is v q) h k = k
-  or-one w (Differs p) (None q) h k = tt
+  or-one : (w : Word) (m : Result ℕ ℕ) (others : Result (Word × ℕ) ℕ) → P w → OneOf others → OneOf (or_word w m others)
+  or-one w (Ok p) others h k = h
+  or-one w (Err p) (Ok (v, q)) h k = k
+  or-one w (Err p) (Err q) h k = tt
 
   pub one_of : (s : List ℕ) (at : ℕ) (ws : List Word) → Each P ws → OneOf (word_at s at ws)
   unfolding word_at
@@ -85,13 +82,13 @@ pub apart : (role : Role) → Apart (head_words role)
 apart OwnForm = (refl, (refl, (refl, (refl, (refl, (refl, tt))))))
 apart Argument = (refl, (refl, (refl, (refl, (refl, (refl, (refl, tt)))))))
 
-abbrev pub spelled_of : Word → Matched → Spelled
-spelled_of w (Past p) = Is w p
-spelled_of w (Differs p) = None p
+abbrev pub spelled_of : Word → Result ℕ ℕ → Result (Word × ℕ) ℕ
+spelled_of w (Ok p) = Ok (w, p)
+spelled_of w (Err p) = Err p
 
 -- the word that begins with the byte c
-abbrev pub letter_then : List ℕ → ℕ → List Word → ℕ → Spelled
-letter_then s at [] c = None at
+abbrev pub letter_then : List ℕ → ℕ → List Word → ℕ → Result (Word × ℕ) ℕ
+letter_then s at [] c = Err at
 letter_then s at (w ∷ ws) c = cond (eqb c (first w)) (spelled_of w (match_at s at (spelling w))) (letter_then s at ws c)
 
 neither : (a b : Bool) → a || b ≡ false → (a ≡ false) × (b ≡ false)
@@ -99,37 +96,37 @@ neither true b h = (h, absurd (let z : ◌≡◌ {A = ℕ} 0 1 = cc in omega ari
 neither false b h = (refl, h)
 
 -- where an answer lies
-abbrev pub spelled_at : Spelled → ℕ
-spelled_at (Is w p) = p
-spelled_at (None p) = p
+abbrev pub spelled_at : Result (Word × ℕ) ℕ → ℕ
+spelled_at (Ok (w, p)) = p
+spelled_at (Err p) = p
 
-abbrev pub matched_at : Matched → ℕ
-matched_at (Past p) = p
-matched_at (Differs p) = p
+abbrev pub matched_at : Result ℕ ℕ → ℕ
+matched_at (Ok p) = p
+matched_at (Err p) = p
 
 module _ (s : List ℕ) (at : ℕ) where
-  differs : (b : ℕ) (w : List ℕ) → eqb (byte_at s at) b ≡ false → match_at s at (b ∷ w) ≡ Differs at
+  differs : (b : ℕ) (w : List ℕ) → eqb (byte_at s at) b ≡ false → match_at s at (b ∷ w) ≡ Err at
   unfolding match_at
   differs b w h = rw h
 
-  not-here : (w : Word) → eqb (byte_at s at) (first w) ≡ false → match_at s at (spelling w) ≡ Differs at
+  not-here : (w : Word) → eqb (byte_at s at) (first w) ≡ false → match_at s at (spelling w) ≡ Err at
   not-here w h = ap (match_at s at) (spelt w) ∙ differs (first w) (drop 1 (spelling w)) h
 
-  or-differs : (w : Word) (others : Spelled) → at ≤ spelled_at others → or_word w (Differs at) others ≡ others
-  or-differs w (Is v q) l = refl
-  or-differs w (None q) l = let e : max at q ≡ q = omega arith in ap None e
+  or-differs : (w : Word) (others : Result (Word × ℕ) ℕ) → at ≤ spelled_at others → or_word w (Err at) others ≡ others
+  or-differs w (Ok (v, q)) l = refl
+  or-differs w (Err q) l = let e : max at q ≡ q = omega arith in ap Err e
 
-  or-none : (w : Word) (m : Matched) → at ≤ matched_at m → or_word w m (None at) ≡ spelled_of w m
-  or-none w (Past p) l = refl
-  or-none w (Differs p) l = let e : max p at ≡ p = omega arith in ap None e
+  or-none : (w : Word) (m : Result ℕ ℕ) → at ≤ matched_at m → or_word w m (Err at) ≡ spelled_of w m
+  or-none w (Ok p) l = refl
+  or-none w (Err p) l = let e : max p at ≡ p = omega arith in ap Err e
 
-  none : (ws : List Word) → begun ws (byte_at s at) ≡ false → word_at s at ws ≡ None at
+  none : (ws : List Word) → begun ws (byte_at s at) ≡ false → word_at s at ws ≡ Err at
   unfolding word_at
   none [] h = refl
   none (w ∷ ws) h =
       let k : (eqb (byte_at s at) (first w) ≡ false) × (begun ws (byte_at s at) ≡ false) =
       neither (eqb (byte_at s at) (first w)) (begun ws (byte_at s at)) h in
-      rw (not-here w k.0, none ws k.1) (or-differs w (None at) (omega arith))
+      rw (not-here w k.0, none ws k.1) (or-differs w (Err at) (omega arith))
 
 match-reach : (s w : List ℕ) (at : ℕ) → at ≤ matched_at (match_at s at w)
 unfolding match_at
@@ -141,10 +138,11 @@ match-reach s (b ∷ w) at = by (same? (byte_at s at) b) (match-reach s w (at + 
     by (inr e) l = rw (ne_eqb (byte_at s at) b e) (omega arith)
 
 module _ (s : List ℕ) (at : ℕ) where
-  or-reach : (w : Word) (m : Matched) (others : Spelled) → at ≤ matched_at m → at ≤ spelled_at others → at ≤ spelled_at (or_word w m others)
-  or-reach w (Past p) others l h = l
-  or-reach w (Differs p) (Is v q) l h = h
-  or-reach w (Differs p) (None q) l h = omega arith
+  or-reach : (w : Word) (m : Result ℕ ℕ) (others : Result (Word × ℕ) ℕ) → at ≤ matched_at m → at ≤ spelled_at others
+      → at ≤ spelled_at (or_word w m others)
+  or-reach w (Ok p) others l h = l
+  or-reach w (Err p) (Ok (v, q)) l h = h
+  or-reach w (Err p) (Err q) l h = omega arith
 
   word-reach : (ws : List Word) → at ≤ spelled_at (word_at s at ws)
   unfolding word_at

@@ -4,50 +4,49 @@ use Rattle.table.specs.Layout.{words_for}
 use Rattle.table.specs.Node.{max_nodes}
 use Rattle.text.specs.Answers.{reading_of}
 use Rattle.text.specs.Read.{Stepped, ReadOut}
-use Rattle.text.specs.declared.answer.Reading.{Reading}
-use Rattle.text.specs.declared.answer.Step.{Step}
-use Rattle.text.specs.declared.answer.Step.TheVariants.{Stop, Made}
-use Rattle.text.specs.declared.head.InRange.{InRange}
-use Rattle.text.specs.declared.head.InRange.TheVariants.{Inside, Unfit}
 use Rattle.text.specs.declared.head.Limits.{Limits}
-use Rattle.text.specs.declared.head.Matched.{Matched}
-use Rattle.text.specs.declared.head.Matched.TheVariants.{Past, Differs}
 use Rattle.text.specs.declared.head.Opening.{Opening}
-use Rattle.text.specs.declared.head.Opening.TheVariants.{Broken, Leaf, Inner, Line}
-use Rattle.text.specs.declared.head.Spelled.{Spelled}
-use Rattle.text.specs.declared.head.Spelled.TheVariants.{Is, None}
-use Rattle.text.specs.declared.number.Numeral.{Numeral}
-use Rattle.text.specs.declared.number.Numeral.TheVariants.{Value, Missing}
+use Rattle.text.specs.declared.head.Opening.TheVariants.{Leaf, Inner, Line}
+use Rattle.text.specs.declared.head.Word.{Word}
+use Rattle.std.specs.Prelude.{Option, Some, None, Result, Ok, Err}
+use Rattle.text.specs.declared.answer.Misread.{Misread}
+use Rattle.text.specs.declared.answer.Formed.{Formed}
+use Rattle.text.specs.declared.answer.Circuit.{Circuit}
 
-abbrev pub NumeralRuns : List ℕ → ℕ → Numeral → Type 0
-NumeralRuns s at Missing = Unit
-NumeralRuns s at (Value v p) = (at < p) × (p ≤ length s) × (v < 10000)
+-- d is the digit of this value, or none where the value is 10
+abbrev pub DigitIs : ℕ → Option ℕ → Type 0
+DigitIs v None = v ≡ 10
+DigitIs v (Some d) = (v ≡ d) × (d < 10)
 
-abbrev pub MatchedRuns : List ℕ → ℕ → Matched → Type 0
-MatchedRuns s at (Past p) = (at ≤ p) × (p ≤ length s)
-MatchedRuns s at (Differs p) = Unit
+abbrev pub NumeralRuns : List ℕ → ℕ → Option (ℕ × ℕ) → Type 0
+NumeralRuns s at None = Unit
+NumeralRuns s at (Some (v, p)) = (at < p) × (p ≤ length s) × (v < 10000)
 
-abbrev pub RangedRuns : List ℕ → ℕ → ℕ → InRange → Type 0
-RangedRuns s at high (Unfit f p) = Unit
-RangedRuns s at high (Inside v p) = (at < p) × (p < length s) × (v < high)
+abbrev pub MatchedRuns : List ℕ → ℕ → Result ℕ ℕ → Type 0
+MatchedRuns s at (Ok p) = (at ≤ p) × (p ≤ length s)
+MatchedRuns s at (Err p) = Unit
 
-abbrev pub HeaderRuns : List ℕ → InRange → Type 0
-HeaderRuns s (Unfit f p) = Unit
-HeaderRuns s (Inside v p) = p ≤ length s
+abbrev pub RangedRuns : List ℕ → ℕ → ℕ → Result (ℕ × ℕ) Misread → Type 0
+RangedRuns s at high (Err e) = Unit
+RangedRuns s at high (Ok (v, p)) = (at < p) × (p < length s) × (v < high)
 
-abbrev pub SpelledRuns : List ℕ → ℕ → Spelled → Type 0
-SpelledRuns s at (None p) = Unit
-SpelledRuns s at (Is w p) = (at ≤ p) × (p ≤ length s)
+abbrev pub HeaderRuns : List ℕ → Result (ℕ × ℕ) Misread → Type 0
+HeaderRuns s (Err e) = Unit
+HeaderRuns s (Ok (v, p)) = p ≤ length s
 
-abbrev pub OpeningRuns : List ℕ → ℕ → ℕ → Opening → Type 0
-OpeningRuns s at earlier (Broken f p) = Unit
-OpeningRuns s at earlier (Leaf k x p) = (at ≤ p) × (p ≤ length s)
-OpeningRuns s at earlier (Inner op p) = (at ≤ p) × (p ≤ length s)
-OpeningRuns s at earlier (Line k p) = (at ≤ p) × (p < length s) × (k < earlier)
+abbrev pub SpelledRuns : List ℕ → ℕ → Result (Word × ℕ) ℕ → Type 0
+SpelledRuns s at (Err p) = Unit
+SpelledRuns s at (Ok (w, p)) = (at ≤ p) × (p ≤ length s)
 
-abbrev pub StepRuns : List ℕ → ℕ → Step → Type 0
-StepRuns s at (Stop f p) = Unit
-StepRuns s at (Made p m a) = (at < p) × (p ≤ length s)
+abbrev pub OpeningRuns : List ℕ → ℕ → ℕ → Result Opening Misread → Type 0
+OpeningRuns s at earlier (Err e) = Unit
+OpeningRuns s at earlier (Ok (Leaf k x p)) = (at ≤ p) × (p ≤ length s)
+OpeningRuns s at earlier (Ok (Inner op p)) = (at ≤ p) × (p ≤ length s)
+OpeningRuns s at earlier (Ok (Line k p)) = (at ≤ p) × (p < length s) × (k < earlier)
+
+abbrev pub StepRuns : List ℕ → ℕ → Result Formed Misread → Type 0
+StepRuns s at (Err e) = Unit
+StepRuns s at (Ok d) = (at < d.past) × (d.past ≤ length s)
 
 -- what the form reader needs of what it is lent
 pub record Fit (words lines : List ℕ) (g : Limits) : Type 0 where
@@ -56,8 +55,8 @@ pub record Fit (words lines : List ℕ) (g : Limits) : Type 0 where
   pub known : g.earlier ≤ length lines
 
 -- the answer r and the words v are those that the definition gives
-abbrev pub StepIs : List ℕ → ℕ → Step → List ℕ → Stepped → Type 0
+abbrev pub StepIs : List ℕ → ℕ → Result Formed Misread → List ℕ → Stepped → Type 0
 StepIs s at r v d = (r ≡ d.step) × (v ≡ d.words) × StepRuns s at r
 
-abbrev pub ReadIs : Reading → List ℕ → ReadOut → Type 0
+abbrev pub ReadIs : Result Circuit Misread → List ℕ → ReadOut → Type 0
 ReadIs r v d = (reading_of r ≡ d.answer) × (v ≡ d.words)

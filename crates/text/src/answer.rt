@@ -2,49 +2,50 @@
 ghost use Rattle.std.specs.Prelude.{◌≡◌};
 ghost use Rattle.text.specs.Answers.{fault_number};
 
-// Why a circuit text is refused.
+// Why a circuit text is refused, by the scope's numbers.
 #[derive(Clone, Copy)]
 pub enum Fault {
-    // 10: over 110,000 bytes
-    Length,
-    // 11: wrong shape
-    Shape,
-    // 12: N or V outside its range
-    Range,
-    // 13: K not an earlier line
-    Reference,
-    // 14: a bracket seventeen deep
-    Depth,
-    // 15: no room for the node
-    Nodes,
+    // over 110,000 bytes
+    Length = 10,
+    // wrong shape
+    Shape = 11,
+    // N or V outside its range
+    Range = 12,
+    // K not an earlier line
+    Reference = 13,
+    // a bracket seventeen deep
+    Depth = 14,
+    // no room for the node
+    Nodes = 15,
 }
 
 // The scope's number.
 pub fn fault_number(fault: Fault) -> u32
     ensures { result ≡ fault_number fault }
 {
-    match fault {
-        Fault::Length => 10,
-        Fault::Shape => 11,
-        Fault::Range => 12,
-        Fault::Reference => 13,
-        Fault::Depth => 14,
-        Fault::Nodes => 15,
-    }
+    fault as u32
 }
 
+// A text that is refused: why, and at which place.
 #[derive(Clone, Copy)]
-pub enum Reading {
-    // the number of variables and the number of nodes
-    Circuit(u32, u32),
-    // why, and the place
-    Refused(Fault, usize),
+pub struct Misread(pub Fault, pub usize);
+
+// A circuit text that was read.
+#[derive(Clone, Copy)]
+pub struct Circuit {
+    // the number of variables
+    pub variables: u32,
+    // the number of nodes
+    pub nodes: u32,
 }
 
-// After a form was read.
+// A form that was read.
 #[derive(Clone, Copy)]
-pub enum Step {
-    Stop(Fault, usize),
-    // the place past the form, the number of nodes now, and the node that the form means
-    Made(usize, u32, u32),
+pub struct Formed {
+    // the place past it
+    pub past: usize,
+    // the number of nodes after it
+    pub nodes: u32,
+    // the node that it means
+    pub node: u32,
 }

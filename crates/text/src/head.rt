@@ -4,60 +4,48 @@ ghost use Rattle.text.specs.Places.{MatchedRuns, RangedRuns, SpelledRuns, Openin
 ghost use Rattle.text.specs.Read.{match_at, ranged_at, word_at, literal_at, tail_at, head_at};
 ghost use Rattle.text.specs.Words.{line_word, head_words, or_word};
 
-use super::answer::Fault;
-use super::number::{CLOSE, Numeral, OPEN, SPACE, byte_at, number};
+use super::answer::{Fault, Misread};
+use super::number::{CLOSE, OPEN, SPACE, byte_at, number};
 use table::{FALSE, NEGATIVE, POSITIVE, TRUE};
 
-#[derive(Clone, Copy)]
-pub enum Matched {
-    // the place past the bytes
-    Past(usize),
-    // the place of the first byte that differs
-    Differs(usize),
-}
-
-// The bytes of w at a place.
-pub fn match_at(s: &[u8], at: usize, w: &[u8]) -> Matched
+// The bytes of w at a place: the place past them, or that of the first byte that differs.
+pub fn match_at(s: &[u8], at: usize, w: &[u8]) -> Result<usize, usize>
     requires { (at ≤ length s.now) × (length w.now ≤ 16) }
     ensures { (result ≡ match_at s.now at w.now) × MatchedRuns s.now at result }
 {
-    let mut i: usize = 0;
-    while i < w.len() {
+    for i in 0..w.len() {
         if byte_at(s, at + i) != w[i] as u32 {
-            return Matched::Differs(at + i);
+            return Err(at + i);
         }
-        i = i + 1;
     }
-    Matched::Past(at + i)
+    Ok(at + w.len())
 }
 
-#[derive(Clone, Copy)]
-pub enum InRange {
-    // the number, and the place past it
-    Inside(u32, usize),
-    Unfit(Fault, usize),
-}
-
-// A number from low up to below high, and then the byte `next`, which is not passed.
-pub fn ranged(s: &[u8], at: usize, low: u32, high: u32, next: u32, fault: Fault) -> InRange
+// A number from low up to below high, and then the byte `next`, which is not passed: the number, and the place past it.
+pub fn ranged(
+    s: &[u8],
+    at: usize,
+    low: u32,
+    high: u32,
+    next: u32,
+    fault: Fault,
+) -> Result<(u32, usize), Misread>
     requires { (at ≤ length s.now) × (next < 256) }
     ensures { (result ≡ ranged_at s.now at low high next fault) × RangedRuns s.now at high result }
 {
-    match number(s, at) {
-        Numeral::Missing => InRange::Unfit(Fault::Shape, at),
-        Numeral::Value(v, p) => {
-            if byte_at(s, p) != next {
-                return InRange::Unfit(Fault::Shape, p);
-            }
-            if v < low {
-                return InRange::Unfit(fault, p);
-            }
-            if high <= v {
-                return InRange::Unfit(fault, p);
-            }
-            InRange::Inside(v, p)
-        }
+    let Some((v, p)) = number(s, at) else {
+        return Err(Misread(Fault::Shape, at));
+    };
+    if byte_at(s, p) != next {
+        return Err(Misread(Fault::Shape, p));
     }
+    if v < low {
+        return Err(Misread(fault, p));
+    }
+    if high <= v {
+        return Err(Misread(fault, p));
+    }
+    Ok((v, p))
 }
 
 // The words that forms begin with.
@@ -79,14 +67,8 @@ pub enum Role {
     Argument,
 }
 
-// Which word stands at a place.
-#[derive(Clone, Copy)]
-pub enum Spelled {
-    // this one; the place past it
-    Is(Word, usize),
-    // none; the furthest place that one of them reaches
-    None(usize),
-}
+// Which word stands at a place, and the place past it; where none does, the furthest place that one of them reaches.
+type Spelled = Result<(Word, usize), usize>;
 
 // This word where it stands at the place, or else what is known of the others.
 fn or_word(s: &[u8], at: usize, bytes: &[u8], word: Word, others: Spelled) -> Spelled
@@ -94,16 +76,8 @@ fn or_word(s: &[u8], at: usize, bytes: &[u8], word: Word, others: Spelled) -> Sp
     ensures { (result ≡ or_word word (match_at s.now at bytes.now) others) × SpelledRuns s.now at result }
 {
     match match_at(s, at, bytes) {
-        Matched::Past(p) => Spelled::Is(word, p),
-        Matched::Differs(p) => match others {
-            Spelled::Is(w, q) => Spelled::Is(w, q),
-            Spelled::None(q) => {
-                if q < p {
-                    return Spelled::None(p);
-                }
-                Spelled::None(q)
-            }
-        },
+        Ok(p) => Ok((word, p)),
+        Err(p) => others.map_err(|q| p.max(q)),
     }
 }
 
@@ -113,8 +87,8 @@ fn line_word(s: &[u8], at: usize, role: Role) -> Spelled
     ensures { (result ≡ word_at s.now at (line_word role)) × SpelledRuns s.now at result }
 {
     match role {
-        Role::OwnForm => Spelled::None(at),
-        Role::Argument => or_word(s, at, b"line ", Word::Line, Spelled::None(at)),
+        Role::OwnForm => Err(at),
+        Role::Argument => or_word(s, at, b"line ", Word::Line, Err(at)),
     }
 }
 
@@ -152,9 +126,9 @@ pub enum Operator {
     Conjunction,
 }
 
+// A form up to its first child, with the place past that.
 #[derive(Clone, Copy)]
 pub enum Opening {
-    Broken(Fault, usize),
     // kind and variable of a form with no child
     Leaf(u32, u32, usize),
     // a form with children to come
@@ -164,48 +138,46 @@ pub enum Opening {
 }
 
 // The variable of a literal, after its word.
-fn literal_at(s: &[u8], at: usize, kind: u32, limits: Limits) -> Opening
+fn literal_at(s: &[u8], at: usize, kind: u32, limits: Limits) -> Result<Opening, Misread>
     requires { at ≤ length s.now }
     ensures { (result ≡ literal_at s.now at kind limits) × OpeningRuns s.now at limits.earlier result }
 {
-    match ranged(s, at, 0, limits.variables, CLOSE, Fault::Range) {
-        InRange::Unfit(f, p) => Opening::Broken(f, p),
-        InRange::Inside(v, p) => Opening::Leaf(kind, v, p),
-    }
+    let (v, p) = ranged(s, at, 0, limits.variables, CLOSE, Fault::Range)?;
+    Ok(Opening::Leaf(kind, v, p))
 }
 
 // What stands after the word of a form.
-fn tail(s: &[u8], at: usize, word: Word, limits: Limits) -> Opening
+fn tail(s: &[u8], at: usize, word: Word, limits: Limits) -> Result<Opening, Misread>
     requires { at ≤ length s.now }
     ensures { (result ≡ tail_at s.now at word limits) × OpeningRuns s.now at limits.earlier result }
 {
     match word {
-        Word::False => Opening::Leaf(FALSE, 0, at),
-        Word::True => Opening::Leaf(TRUE, 0, at),
+        Word::False => Ok(Opening::Leaf(FALSE, 0, at)),
+        Word::True => Ok(Opening::Leaf(TRUE, 0, at)),
         Word::Yes => literal_at(s, at, POSITIVE, limits),
         Word::No => literal_at(s, at, NEGATIVE, limits),
-        Word::Pick => match ranged(s, at, 0, limits.variables, SPACE, Fault::Range) {
-            InRange::Unfit(f, p) => Opening::Broken(f, p),
-            InRange::Inside(v, p) => Opening::Inner(Operator::Decision(v), p),
-        },
-        Word::Both => Opening::Inner(Operator::Conjunction, at),
-        Word::Line => match ranged(s, at, 0, limits.earlier, CLOSE, Fault::Reference) {
-            InRange::Unfit(f, p) => Opening::Broken(f, p),
-            InRange::Inside(v, p) => Opening::Line(v, p),
-        },
+        Word::Pick => {
+            let (v, p) = ranged(s, at, 0, limits.variables, SPACE, Fault::Range)?;
+            Ok(Opening::Inner(Operator::Decision(v), p))
+        }
+        Word::Both => Ok(Opening::Inner(Operator::Conjunction, at)),
+        Word::Line => {
+            let (k, p) = ranged(s, at, 0, limits.earlier, CLOSE, Fault::Reference)?;
+            Ok(Opening::Line(k, p))
+        }
     }
 }
 
 // A form up to its first child, or to its closing bracket where it has none.
-pub fn head(s: &[u8], at: usize, role: Role, limits: Limits) -> Opening
+pub fn head(s: &[u8], at: usize, role: Role, limits: Limits) -> Result<Opening, Misread>
     requires { at ≤ length s.now }
     ensures { (result ≡ head_at s.now at role limits) × OpeningRuns s.now (at + 1) limits.earlier result }
 {
     if byte_at(s, at) != OPEN {
-        return Opening::Broken(Fault::Shape, at);
+        return Err(Misread(Fault::Shape, at));
     }
     match word_at(s, at + 1, role) {
-        Spelled::None(p) => Opening::Broken(Fault::Shape, p),
-        Spelled::Is(word, p) => tail(s, p, word, limits),
+        Err(p) => Err(Misread(Fault::Shape, p)),
+        Ok((word, p)) => tail(s, p, word, limits),
     }
 }

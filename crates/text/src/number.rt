@@ -1,6 +1,6 @@
 // Bytes and numbers at a place of a text.
-ghost use Rattle.std.specs.Prelude.{◌≡◌, ◌+◌, ◌≤◌, ◌<◌, length};
-ghost use Rattle.text.specs.Places.{NumeralRuns};
+ghost use Rattle.std.specs.Prelude.{◌≡◌, ◌+◌, ◌≤◌, ◌<◌, length, OnSome};
+ghost use Rattle.text.specs.Places.{NumeralRuns, DigitIs};
 ghost use Rattle.text.specs.Read.{byte_at, digit_at, number_at};
 
 // Stands for the byte at the end of a text, and is no byte.
@@ -25,55 +25,30 @@ pub fn byte_at(s: &[u8], at: usize) -> u32
     if at < s.len() { s[at] as u32 } else { END }
 }
 
-// The value of the digit at a place, or 10 where none stands.
-fn digit(s: &[u8], at: usize) -> u32
-    ensures { (result ≡ digit_at s.now at) × (result ≤ 10) × (result < 10 → at < length s.now) }
+// The value of the digit at a place.
+fn digit(s: &[u8], at: usize) -> Option<u32>
+    ensures { DigitIs (digit_at s.now at) result × OnSome result (at < length s.now) }
 {
-    let c = byte_at(s, at);
-    if c < FIRST_DIGIT {
-        return 10;
+    match byte_at(s, at) {
+        c @ FIRST_DIGIT..=LAST_DIGIT => Some(c - FIRST_DIGIT),
+        _ => None,
     }
-    if LAST_DIGIT < c {
-        return 10;
-    }
-    c - FIRST_DIGIT
 }
 
-#[derive(Clone, Copy)]
-pub enum Numeral {
-    // the number, and the place past it
-    Value(u32, usize),
-    Missing,
-}
-
-// One to four digits with no leading zero.
-pub fn number(s: &[u8], at: usize) -> Numeral
+// One to four digits with no leading zero: the number, and the place past it.
+pub fn number(s: &[u8], at: usize) -> Option<(u32, usize)>
     requires { at ≤ length s.now }
     ensures { (result ≡ number_at s.now at) × NumeralRuns s.now at result }
 {
-    let a = digit(s, at);
-    if a == 10 {
-        return Numeral::Missing;
+    let mut v = digit(s, at)?;
+    if v == 0 {
+        return Some((0, at + 1));
     }
-    let p = at + 1;
-    if a == 0 {
-        return Numeral::Value(0, p);
+    for k in 1..4 {
+        let Some(d) = digit(s, at + k) else {
+            return Some((v, at + k));
+        };
+        v = 10 * v + d;
     }
-    let b = digit(s, p);
-    if b == 10 {
-        return Numeral::Value(a, p);
-    }
-    let v = 10 * a + b;
-    let q = p + 1;
-    let c = digit(s, q);
-    if c == 10 {
-        return Numeral::Value(v, q);
-    }
-    let w = 10 * v + c;
-    let t = q + 1;
-    let d = digit(s, t);
-    if d == 10 {
-        return Numeral::Value(w, t);
-    }
-    Numeral::Value(10 * w + d, t + 1)
+    Some((v, at + 4))
 }

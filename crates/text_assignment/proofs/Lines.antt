@@ -17,7 +17,7 @@ use Rattle.text.specs.Meaning.{Bytes}
 use Rattle.text.specs.Syntax.{decimal}
 use Rattle.lines.specs.Format.{choice, first, fits, print, last, faults}
 use Rattle.lines.proofs.Lines.{PieceFault, fault-numbered, lines-refused-is, lines-reading-is, lines-reading-only, Language}
-use Rattle.lines.proofs.WellFormed.{Some, PieceOk, WellFormed, picked-some}
+use Rattle.lines.proofs.WellFormed.{Any, PieceOk, WellFormed, picked-some}
 use Rattle.text_assignment.specs.Line.{member_choices, line_piece, line_format, mask_in, read_assignment, State, begun, members}
 use Rattle.text_assignment.specs.Line.{member, closed}
 use Rattle.text_assignment.specs.Meaning.{LineReadsAs}
@@ -64,7 +64,7 @@ module _ (N : ℕ) where
   members-every [] low mask f = absurd f
   members-every (m ∷ []) low mask f = by (picked-some (line_format N) (λ r. fits (line_format N) r []) (member_choices low mask) m f)
     where
-      by : Some (λ c. (first c.word ≡ m) × T (fits (line_format N) c.next [])) (member_choices low mask) → Members (m ∷ [])
+      by : Any (λ c. (first c.word ≡ m) × T (fits (line_format N) c.next [])) (member_choices low mask) → Members (m ∷ [])
       by (inl (e, g)) = absurd g
       by (inr (inl (e, g))) = ([], tt, ap (λ (z : ℕ). z ∷ []) e)
       by (inr (inr g)) = absurd g
@@ -72,7 +72,7 @@ module _ (N : ℕ) where
       by (picked-some (line_format N) (λ r. fits (line_format N) r (v ∷ ms)) (member_choices low mask) m f)
       (members-every ms (v + 1) (put mask v true))
     where
-      by : Some (λ c. (first c.word ≡ m) × T (fits (line_format N) c.next (v ∷ ms))) (member_choices low mask)
+      by : Any (λ c. (first c.word ≡ m) × T (fits (line_format N) c.next (v ∷ ms))) (member_choices low mask)
           → (T (fits (line_format N) (members (v + 1) (put mask v true)) ms) → Members ms) → Members (m ∷ v ∷ ms)
       by (inl (e, g)) more =
           let rest : Bool = fits (line_format N) (members (v + 1) (put mask v true)) ms in
@@ -87,7 +87,7 @@ module _ (N : ℕ) where
   line-every (m ∷ ms) f =
       by (picked-some (line_format N) (λ r. fits (line_format N) r ms) (choice (ascii "(stow") (members 0 0) ∷ []) m f)
     where
-      by : Some (λ c. (first c.word ≡ m) × T (fits (line_format N) c.next ms)) (choice (ascii "(stow") (members 0 0) ∷ [])
+      by : Any (λ c. (first c.word ≡ m) × T (fits (line_format N) c.next ms)) (choice (ascii "(stow") (members 0 0) ∷ [])
           → (vs : List ℕ) × SmallNumbers vs × (40 ∷ member_moves vs ≡ m ∷ ms)
       by (inl (e, g)) = let (vs, sm, i) = members-every ms 0 0 g in (vs, sm, λ d. e d ∷ i d)
       by (inr g) = absurd g

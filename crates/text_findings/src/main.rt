@@ -7,10 +7,11 @@ use output::{refusal_line, term_line};
 use std::io::Stdout;
 use table::layout::NODE_WORDS;
 use terms::Term;
-use text::answer::{Fault, Reading};
-use text_assignment::assignment::{AssignmentReading, read_assignment};
+use text::answer::{Circuit, Fault, Misread};
+use text_assignment::assignment::{AssignmentFault, read_assignment};
 use text_reader::reader::read;
-use text_writer::writer::{Written, write};
+use text_writer::fault::WriteFault;
+use text_writer::writer::write;
 
 // How many words most texts are read into: enough for 40 nodes.
 const WORDS: usize = NODE_WORDS * 40;
@@ -33,17 +34,17 @@ fn print_fault(stdout: Stdout, fault: Fault, place: usize) {
 fn print_table(stdout: Stdout, words: &[u32], variables: u32, nodes: u32) {
     let mut sink = [0u8; 1024];
     match write(words, variables, nodes, &mut sink) {
-        Written::Done(n) => print(stdout, &sink, n),
-        Written::Refused(_) => {}
-        Written::Sink(n) => print_refusal(stdout, 16, n),
+        Ok(n) => print(stdout, &sink, n),
+        Err(WriteFault::Table(_)) => {}
+        Err(WriteFault::Sink(n)) => print_refusal(stdout, 16, n),
     }
 }
 
 // Reads a circuit text into lent words.
 fn read_into(stdout: Stdout, text: &[u8], words: &mut [u32]) {
     match read(text, words) {
-        Reading::Circuit(variables, nodes) => print_table(stdout, words, variables, nodes),
-        Reading::Refused(fault, place) => print_fault(stdout, fault, place),
+        Ok(Circuit { variables, nodes }) => print_table(stdout, words, variables, nodes),
+        Err(Misread(fault, place)) => print_fault(stdout, fault, place),
     }
 }
 
@@ -58,7 +59,7 @@ fn circuit(stdout: Stdout, text: &[u8], room: usize) {
 // Reads an assignment line of so many variables, and prints those that are yes.
 fn assignment(stdout: Stdout, line: &[u8], variables: u32) {
     match read_assignment(line, variables) {
-        AssignmentReading::Assignment(mask) => {
+        Ok(mask) => {
             let mut row = [0u8; 256];
             let n = term_line(
                 &mut row,
@@ -69,9 +70,9 @@ fn assignment(stdout: Stdout, line: &[u8], variables: u32) {
             );
             print(stdout, &row, n);
         }
-        AssignmentReading::Sizes => print_refusal(stdout, 21, 0),
-        AssignmentReading::LineShape(p) => print_refusal(stdout, 51, p),
-        AssignmentReading::LineOrder(p) => print_refusal(stdout, 52, p),
+        Err(AssignmentFault::Sizes) => print_refusal(stdout, 21, 0),
+        Err(AssignmentFault::LineShape(p)) => print_refusal(stdout, 51, p),
+        Err(AssignmentFault::LineOrder(p)) => print_refusal(stdout, 52, p),
     }
 }
 

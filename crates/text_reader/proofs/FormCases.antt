@@ -14,52 +14,55 @@ use Rattle.text.specs.Read.{byte_at, head_at, close_at, setting, no_children, wi
 use Rattle.text.specs.Read.{Stepped}
 use Rattle.text.specs.Syntax.{most_forms}
 use Rattle.text.specs.declared.answer.Fault.{Fault}
-use Rattle.text.specs.declared.answer.Step.{Step}
-use Rattle.text.specs.declared.answer.Step.TheVariants.{Stop, Made}
 use Rattle.text.specs.declared.head.Limits.{Limits}
-use Rattle.text.specs.declared.head.Opening.TheVariants.{Broken, Leaf, Inner, Line}
+use Rattle.text.specs.declared.head.Opening.TheVariants.{Leaf, Inner, Line}
 use Rattle.text.specs.declared.head.Operator.{Operator}
 use Rattle.text.specs.declared.head.Role.{Role}
 use Rattle.text.specs.declared.head.Role.TheVariants.{Argument}
+use Rattle.std.specs.Prelude.{Result, Ok, Err}
+use Rattle.text.specs.declared.answer.Misread.{Misread}
+use Rattle.text.specs.declared.answer.Formed.{Formed}
+use Rattle.text.specs.Answers.{misread, formed}
 
 -- what is lent stays fit while the number of words stays
 pub still : {w v lines : List ℕ} {g : Limits} → Fit w lines g → length v ≡ length w → Fit v lines g
 still f e = record { enough = omega (arith, f.enough); few = f.few; known = f.known }
 
 -- an answer from a later place is one from an earlier place
-later : (s : List ℕ) (at q : ℕ) → at ≤ q → (r : Step) (v : List ℕ) (d : Stepped) → StepIs s q r v d → StepIs s at r v d
-later s at q l (Stop f p) v d i = i
-later s at q l (Made p m a) v d i = (i.0, i.1, omega (arith, i.2))
+later : (s : List ℕ) (at q : ℕ) → at ≤ q → (r : Result Formed Misread) (v : List ℕ) (d : Stepped) → StepIs s q r v d → StepIs s at r v d
+later s at q l (Err e) v d i = i
+later s at q l (Ok y) v d i = (i.0, i.1, omega (arith, i.2))
 
 -- ---- the form reader, by what the head says
 module _ (g : Setting) (role : Role) (at : ℕ) (w : List ℕ) (n : ℕ) where
   pub deep : (left : ℕ) (f : Fault) → left ≡ 0 → f ≡ deep_fault g.text at
-      → StepIs g.text at (Stop f at) w (form_at left g role at w n)
+      → StepIs g.text at (misread f at) w (form_at left g role at w n)
   unfolding form_at
   deep left f h e = rw (h, ← e) (refl, refl, tt)
 
-  pub broken : (left : ℕ) (f : Fault) (p : ℕ) → (left ≡ 0 → ⊥) → Broken f p ≡ head_at g.text at role g.limits
-      → StepIs g.text at (Stop f p) w (form_at left g role at w n)
+  pub broken : (left : ℕ) (e : Misread) → (left ≡ 0 → ⊥) → Err e ≡ head_at g.text at role g.limits
+      → StepIs g.text at (Err e) w (form_at left g role at w n)
   unfolding form_at
-  broken zero f p h e = absurd (h refl)
-  broken (suc d) f p h e = rw (← e) (refl, refl, tt)
+  broken zero e h i = absurd (h refl)
+  broken (suc d) e h i = rw (← i) (refl, refl, tt)
 
-  pub line : (left k p : ℕ) → (left ≡ 0 → ⊥) → Line k p ≡ head_at g.text at role g.limits
-      → StepRuns g.text at (Made (p + 1) n (get_or g.lines k 0))
-      → StepIs g.text at (Made (p + 1) n (get_or g.lines k 0)) w (form_at left g role at w n)
+  pub line : (left k p : ℕ) → (left ≡ 0 → ⊥) → Ok (Line k p) ≡ head_at g.text at role g.limits
+      → StepRuns g.text at (formed (p + 1) n (get_or g.lines k 0))
+      → StepIs g.text at (formed (p + 1) n (get_or g.lines k 0)) w (form_at left g role at w n)
   unfolding form_at
   line zero k p h e r = absurd (h refl)
   line (suc d) k p h e r = rw (← e) (refl, refl, r)
 
-  pub leaf : (left k x p : ℕ) → (left ≡ 0 → ⊥) → Leaf k x p ≡ head_at g.text at role g.limits → at ≤ p
-      → (y : NodeWords) → y ≡ encoded k x [] → (r : Step) (v : List ℕ)
+  pub leaf : (left k x p : ℕ) → (left ≡ 0 → ⊥) → Ok (Leaf k x p) ≡ head_at g.text at role g.limits → at ≤ p
+      → (y : NodeWords) → y ≡ encoded k x [] → (r : Result Formed Misread) (v : List ℕ)
       → StepIs g.text p r v (close_at g.text p w n g.limits.room y) → StepIs g.text at r v (form_at left g role at w n)
   unfolding form_at
   leaf zero k x p h e l y ey r v i = absurd (h refl)
   leaf (suc d) k x p h e l y ey r v i = rw (← e, ← ey) (later g.text at p l r v _ i)
 
-  pub inner : (left : ℕ) (op : Operator) (p : ℕ) → (left ≡ 0 → ⊥) → Inner op p ≡ head_at g.text at role g.limits → at ≤ p
-      → (cs : Children) → cs ≡ no_children → (r : Step) (v : List ℕ) → StepIs g.text p r v (rest_at (left - 1) g op p w n cs)
+  pub inner : (left : ℕ) (op : Operator) (p : ℕ) → (left ≡ 0 → ⊥) → Ok (Inner op p) ≡ head_at g.text at role g.limits → at ≤ p
+      → (cs : Children) → cs ≡ no_children → (r : Result Formed Misread) (v : List ℕ)
+      → StepIs g.text p r v (rest_at (left - 1) g op p w n cs)
       → StepIs g.text at r v (form_at left g role at w n)
   unfolding form_at rest_at
   inner zero op p h e l cs ec r v i = absurd (h refl)
@@ -80,28 +83,28 @@ module _ (d : ℕ) (g : Setting) (op : Operator) (at : ℕ) (w : List ℕ) (n : 
   no-space zero form b eb h = refl
   no-space (suc k) form b eb h = rw (← eb, ne_eqb b (code " ") h)
 
-  pub ends : (b : ℕ) → b ≡ byte_at g.text at → (b ≡ code " " → ⊥) → (r : Step) (v : List ℕ) → StepIs g.text at r v ended
+  pub ends : (b : ℕ) → b ≡ byte_at g.text at → (b ≡ code " " → ⊥) → (r : Result Formed Misread) (v : List ℕ) → StepIs g.text at r v ended
       → StepIs g.text at r v (rest_at d g op at w n cs)
   unfolding rest_at
   ends b eb h r v i = rw (no-space (most_forms op - cs.count) (form_at d g Argument) b eb h) i
 
   -- no form more may follow
-  pub full : (k : ℕ) → k ≡ most_forms op → k ≤ cs.count → (r : Step) (v : List ℕ) → StepIs g.text at r v ended
+  pub full : (k : ℕ) → k ≡ most_forms op → k ≤ cs.count → (r : Result Formed Misread) (v : List ℕ) → StepIs g.text at r v ended
       → StepIs g.text at r v (rest_at d g op at w n cs)
   unfolding rest_at rest_with end_at
   full k ek l r v i = let z : most_forms op - cs.count ≡ 0 = omega arith in rw z i
 
   module _ (b : ℕ) (eb : b ≡ byte_at g.text at) (h : b ≡ code " ") (k : ℕ) (ek : k ≡ most_forms op) (l : cs.count < k)
       (v : List ℕ) (ev : v ≡ (form_at d g Argument (at + 1) w n).words) where
-    pub child-stops : (f : Fault) (p : ℕ) → Stop f p ≡ (form_at d g Argument (at + 1) w n).step
-        → StepIs g.text at (Stop f p) v (rest_at d g op at w n cs)
+    pub child-stops : (m : Misread) → Err m ≡ (form_at d g Argument (at + 1) w n).step
+        → StepIs g.text at (Err m) v (rest_at d g op at w n cs)
     unfolding rest_at rest_with
-    child-stops f p e =
+    child-stops m e =
         let z : most_forms op - cs.count ≡ suc (most_forms op - (cs.count + 1)) = omega arith in
         rw (z, ← eb, eq-eqb b (code " ") h, ← e, ← ev) (refl, refl, tt)
 
-    pub goes_on : (p m a : ℕ) → Made p m a ≡ (form_at d g Argument (at + 1) w n).step → at ≤ p
-        → (more : Children) → more ≡ with_child cs a → (r : Step) (u : List ℕ)
+    pub goes_on : (p m a : ℕ) → formed p m a ≡ (form_at d g Argument (at + 1) w n).step → at ≤ p
+        → (more : Children) → more ≡ with_child cs a → (r : Result Formed Misread) (u : List ℕ)
         → StepIs g.text p r u (rest_at d g op p v m more) → StepIs g.text at r u (rest_at d g op at w n cs)
     unfolding rest_at rest_with
     goes_on p m a e q more em r u i =

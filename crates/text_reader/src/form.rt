@@ -9,24 +9,35 @@ use super::children::{
     LEAST_FORMS, leaf_words, most_forms, no_children, operator_words, with_child,
 };
 use table::layout::{Children, NodeWords, put_words};
-use text::answer::{Fault, Step};
+use text::answer::{Fault, Formed, Misread};
 use text::head::{Limits, Opening, Operator, Role, head};
 use text::number::{CLOSE, OPEN, SPACE, byte_at};
 
 // The closing bracket makes node n of these words.
-fn close(s: &[u8], at: usize, words: &mut [u32], n: u32, room: u32, node: NodeWords) -> Step
+fn close(
+    s: &[u8],
+    at: usize,
+    words: &mut [u32],
+    n: u32,
+    room: u32,
+    node: NodeWords,
+) -> Result<Formed, Misread>
     requires { (at ≤ length s.now) × (words_for room ≤ length words.old) × (room ≤ max_nodes) }
     ensures { StepIs s.now at result words.new
         (close_at s.now at words.old n room node) }
 {
     if byte_at(s, at) != CLOSE {
-        return Step::Stop(Fault::Shape, at);
+        return Err(Misread(Fault::Shape, at));
     }
     if room <= n {
-        return Step::Stop(Fault::Nodes, at);
+        return Err(Misread(Fault::Nodes, at));
     }
     put_words(words, n as usize, node);
-    Step::Made(at + 1, n + 1, n)
+    Ok(Formed {
+        past: at + 1,
+        nodes: n + 1,
+        node: n,
+    })
 }
 
 // The end of an inner form: the closing bracket, after two forms at least. No earlier line is looked at.
@@ -38,13 +49,13 @@ fn end(
     limits: Limits,
     op: Operator,
     children: Children,
-) -> Step
+) -> Result<Formed, Misread>
     requires { (at ≤ length s.now) × (words_for limits.room ≤ length words.old) × (limits.room ≤ max_nodes) }
     ensures { StepIs s.now at result words.new
         (end_at (setting s.now [] limits) op at words.old n children) }
 {
     if children.count < LEAST_FORMS {
-        return Step::Stop(Fault::Shape, at);
+        return Err(Misread(Fault::Shape, at));
     }
     close(s, at, words, n, limits.room, operator_words(op, children))
 }
@@ -70,20 +81,23 @@ pub fn form(
     limits: Limits,
     left: u32,
     role: Role,
-) -> Step
+) -> Result<Formed, Misread>
     requires { (at ≤ length s.now) × Fit words.old lines.now limits }
     ensures { StepIs s.now at result words.new
         (form_at left (setting s.now lines.now limits) role at words.old n) }
 {
     if left == 0 {
-        return Step::Stop(too_deep(s, at), at);
+        return Err(Misread(too_deep(s, at), at));
     }
-    match head(s, at, role, limits) {
-        Opening::Broken(f, p) => Step::Stop(f, p),
+    match head(s, at, role, limits)? {
         Opening::Leaf(kind, x, p) => close(s, p, words, n, limits.room, leaf_words(kind, x)),
         Opening::Line(k, p) => {
             let i = k as usize;
-            Step::Made(p + 1, n, lines[i])
+            Ok(Formed {
+                past: p + 1,
+                nodes: n,
+                node: lines[i],
+            })
         }
         Opening::Inner(op, p) => rest(s, p, words, n, lines, limits, left - 1, op, no_children()),
     }
@@ -101,7 +115,7 @@ fn rest(
     left: u32,
     op: Operator,
     children: Children,
-) -> Step
+) -> Result<Formed, Misread>
     requires { (at ≤ length s.now) × Fit words.old lines.now limits }
     ensures { StepIs s.now at result words.new
         (rest_at left (setting s.now lines.now limits) op at words.old n children) }
@@ -112,18 +126,25 @@ fn rest(
     if most_forms(op) <= children.count {
         return end(s, at, words, n, limits, op, children);
     }
-    match form(s, at + 1, words, n, lines, limits, left, Role::Argument) {
-        Step::Stop(f, p) => Step::Stop(f, p),
-        Step::Made(p, m, a) => rest(
-            s,
-            p,
-            words,
-            m,
-            lines,
-            limits,
-            left,
-            op,
-            with_child(children, a),
-        ),
-    }
+    let Formed { past, nodes, node } = form(
+        s,
+        at + 1,
+        words,
+        n,
+        lines,
+        limits,
+        left,
+        Role::Argument,
+    )?;
+    rest(
+        s,
+        past,
+        words,
+        nodes,
+        lines,
+        limits,
+        left,
+        op,
+        with_child(children, node),
+    )
 }

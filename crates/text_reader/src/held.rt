@@ -5,7 +5,7 @@ ghost use Rattle.text.specs.Places.{ReadIs};
 ghost use Rattle.text.specs.Read.{lines_at, room_of};
 
 use super::lines::lines;
-use text::answer::Reading;
+use text::answer::{Circuit, Misread};
 
 // The lent text, and a place in it.
 #[derive(Clone, Copy)]
@@ -22,7 +22,11 @@ pub fn hold<'a>(text: &'a [u8], at: usize) -> HeldText<'a>
 }
 
 // Takes the held text apart, and reads its lines, from its place on, into the lent words.
-pub fn read_lines<'a, 'b>(held: HeldText<'a>, words: &'b mut [u32], variables: u32) -> Reading
+pub fn read_lines<'a, 'b>(
+    held: HeldText<'a>,
+    words: &'b mut [u32],
+    variables: u32,
+) -> Result<Circuit, Misread>
     requires { held.at ≤ length held.text.now }
     ensures { ReadIs result words.new
         (lines_at max_lines held.entry.text.now variables (room_of (length words.old)) (replicate max_lines 0) 0
@@ -37,7 +41,7 @@ pub fn lines_from<'a, 'b>(
     at: usize,
     words: &'b mut [u32],
     variables: u32,
-) -> Reading
+) -> Result<Circuit, Misread>
     requires { at ≤ length text.now }
     ensures { ReadIs result words.new
         (lines_at max_lines text.now variables (room_of (length words.old)) (replicate max_lines 0) 0 at 0

@@ -9,7 +9,7 @@ ghost use Rattle.text.specs.Read.{lines_at, room_of};
 use super::form::form;
 use table::MAX_NODES;
 use table::layout::room_in;
-use text::answer::{Fault, Reading, Step};
+use text::answer::{Circuit, Fault, Formed, Misread};
 use text::head::{Limits, Role};
 use text::limits::{MAX_DEPTH, MAX_LINES};
 use text::number::{END, NEWLINE, byte_at};
@@ -18,50 +18,45 @@ use text::number::{END, NEWLINE, byte_at};
 fn room_of(words: usize) -> u32
     ensures { (result ≡ room_of words) × (result ≤ max_nodes) × (words_for result ≤ words) }
 {
-    let q = room_in(words);
-    if q < (MAX_NODES as usize) {
-        q as u32
-    } else {
-        MAX_NODES
-    }
+    room_in(words).min(MAX_NODES as usize) as u32
 }
 
-// The lines after the header; `nodes` has the node that each earlier line means.
-pub fn lines(s: &[u8], start: usize, words: &mut [u32], variables: u32) -> Reading
+// The lines after the header; `known` has the node that each earlier line means.
+pub fn lines(s: &[u8], start: usize, words: &mut [u32], variables: u32) -> Result<Circuit, Misread>
     requires { start ≤ length s.now }
     ensures { ReadIs result words.new
         (lines_at max_lines s.now variables (room_of (length words.old)) (replicate max_lines 0) 0 start 0
         words.old) }
 {
     let room = room_of(words.len());
-    let mut nodes = [0u32; MAX_LINES as usize];
+    let mut known = [0u32; MAX_LINES as usize];
     let mut at = start;
     let mut n: u32 = 0;
-    let mut k: u32 = 0;
-    while k < MAX_LINES {
+    for k in 0..MAX_LINES {
         let limits = Limits {
             variables,
             room,
             earlier: k,
         };
-        match form(s, at, words, n, &nodes, limits, MAX_DEPTH, Role::OwnForm) {
-            Step::Stop(f, p) => {
-                return Reading::Refused(f, p);
-            }
-            Step::Made(p, m, node) => {
-                if byte_at(s, p) != NEWLINE {
-                    return Reading::Refused(Fault::Shape, p);
-                }
-                if byte_at(s, p + 1) == END {
-                    return Reading::Circuit(variables, m);
-                }
-                let i = k as usize;
-                nodes[i] = node;
-                n = m;
-                at = p + 1;
-            }
+        let Formed { past, nodes, node } = form(
+            s,
+            at,
+            words,
+            n,
+            &known,
+            limits,
+            MAX_DEPTH,
+            Role::OwnForm,
+        )?;
+        if byte_at(s, past) != NEWLINE {
+            return Err(Misread(Fault::Shape, past));
         }
-        k = k + 1;
+        if byte_at(s, past + 1) == END {
+            return Ok(Circuit { variables, nodes });
+        }
+        known[k as usize] = node;
+        n = nodes;
+        at = past + 1;
     }
-    Reading::Refused(Fault::Nodes, at)
+    Err(Misread(Fault::Nodes, at))
 }

@@ -6,48 +6,38 @@ ghost use Rattle.text.specs.Read.{header_at, read_text};
 use super::held::lines_from;
 use buffers::zero_words;
 use table::MAX_VARIABLES;
-use text::answer::{Fault, Reading};
-use text::head::{InRange, Matched, match_at, ranged};
+use text::answer::{Circuit, Fault, Misread};
+use text::head::{match_at, ranged};
 use text::limits::MAX_BYTES;
 use text::number::{CLOSE, NEWLINE, byte_at};
 
 // The numbers of variables are below this.
 const VARIABLES_END: u32 = MAX_VARIABLES + 1;
 
-// `(circuit N)` and byte 10.
-fn header(s: &[u8]) -> InRange
+// `(circuit N)` and byte 10: N, and the place past them.
+fn header(s: &[u8]) -> Result<(u32, usize), Misread>
     ensures { (result ≡ header_at s.now) × HeaderRuns s.now result }
 {
-    match match_at(s, 0, b"(circuit ") {
-        Matched::Differs(p) => InRange::Unfit(Fault::Shape, p),
-        Matched::Past(p) => match ranged(s, p, 1, VARIABLES_END, CLOSE, Fault::Range) {
-            InRange::Unfit(f, q) => InRange::Unfit(f, q),
-            InRange::Inside(v, q) => {
-                if byte_at(s, q + 1) != NEWLINE {
-                    return InRange::Unfit(Fault::Shape, q + 1);
-                }
-                InRange::Inside(v, q + 2)
-            }
-        },
+    let p = match_at(s, 0, b"(circuit ").map_err(|p| Misread(Fault::Shape, p))?;
+    let (v, q) = ranged(s, p, 1, VARIABLES_END, CLOSE, Fault::Range)?;
+    if byte_at(s, q + 1) != NEWLINE {
+        return Err(Misread(Fault::Shape, q + 1));
     }
+    Ok((v, q + 2))
 }
 
 // Reads a circuit text into lent words. A refusal leaves every word 0.
-pub fn read(text: &[u8], words: &mut [u32]) -> Reading
+pub fn read(text: &[u8], words: &mut [u32]) -> Result<Circuit, Misread>
     ensures { ReadIs result words.new (read_text text.now (length words.old)) }
 {
     zero_words(words);
     if MAX_BYTES < text.len() {
-        return Reading::Refused(Fault::Length, MAX_BYTES);
+        return Err(Misread(Fault::Length, MAX_BYTES));
     }
-    match header(text) {
-        InRange::Unfit(f, p) => Reading::Refused(f, p),
-        InRange::Inside(v, p) => match lines_from(text, p, words, v) {
-            Reading::Circuit(variables, n) => Reading::Circuit(variables, n),
-            Reading::Refused(f, q) => {
-                zero_words(words);
-                Reading::Refused(f, q)
-            }
-        },
+    let (variables, at) = header(text)?;
+    let reading = lines_from(text, at, words, variables);
+    if reading.is_err() {
+        zero_words(words);
     }
+    reading
 }

@@ -19,7 +19,7 @@ use Rattle.text.specs.Meaning.{Bytes}
 use Rattle.text.specs.Syntax.{decimal}
 use Rattle.lines.specs.Format.{choice, first, pick, fits_word, fits, print, last, faults, Choice}
 use Rattle.lines.proofs.Lines.{PieceFault, fault-numbered, lines-refused-is, lines-reading-is, lines-reading-only, Language}
-use Rattle.lines.proofs.WellFormed.{Some, Each, IsWord, PieceOk, WellFormed, picked-some}
+use Rattle.lines.proofs.WellFormed.{Any, Each, IsWord, PieceOk, WellFormed, picked-some}
 use Rattle.text_script.specs.Meaning.{ScriptReadsAs}
 use Rattle.text_script.specs.Script.{with, line_choices, opened_choices, sign_choices, script_piece, script_format, steps_in}
 use Rattle.text_script.specs.Script.{room_for, read_steps, State, line, opened, setting, set_to, sign, dropping, dropped}
@@ -182,7 +182,7 @@ module _ (N room : ℕ) where
   sign-parted es v l (m ∷ ms) f =
       by (picked-some (script_format N room) (λ q. fits (script_format N room) q ms) (sign_choices es v) m f)
     where
-      by : Some (λ c. (first c.word ≡ m) × T (fits (script_format N room) c.next ms)) (sign_choices es v)
+      by : Any (λ c. (first c.word ≡ m) × T (fits (script_format N room) c.next ms)) (sign_choices es v)
           → Parted es (115 ∷ v ∷ 32 ∷ m ∷ ms)
       by (inl (e, g)) =
           record { own = set_line v true; others = ms; small = l; are = ap (λ (z : ℕ). 40 ∷ 115 ∷ v ∷ 32 ∷ z ∷ ms) (sym e); fit = g }
@@ -199,7 +199,7 @@ module _ (N room : ℕ) where
       → (first c.word ≡ m) × T (fits (script_format N room) c.next ms)
   one_word c m ms f = by (picked-some (script_format N room) (λ q. fits (script_format N room) q ms) (c ∷ []) m f)
     where
-      by : Some (λ c. (first c.word ≡ m) × T (fits (script_format N room) c.next ms)) (c ∷ [])
+      by : Any (λ c. (first c.word ≡ m) × T (fits (script_format N room) c.next ms)) (c ∷ [])
           → (first c.word ≡ m) × T (fits (script_format N room) c.next ms)
       by (inl g) = g
       by (inr g) = absurd g
@@ -234,7 +234,7 @@ module _ (N room : ℕ) where
   opened-parted es (m ∷ ms) f =
       by (picked-some (script_format N room) (λ q. fits (script_format N room) q ms) (opened_choices es) m f)
     where
-      by : Some (λ c. (first c.word ≡ m) × T (fits (script_format N room) c.next ms)) (opened_choices es) → Parted es (m ∷ ms)
+      by : Any (λ c. (first c.word ≡ m) × T (fits (script_format N room) c.next ms)) (opened_choices es) → Parted es (m ∷ ms)
       by (inl (e, g)) = subst (λ (z : ℕ). Parted es (z ∷ ms)) e (set-parted es ms g)
       by (inr (inl (e, g))) = subst (λ (z : ℕ). Parted es (z ∷ ms)) e (drop-parted es ms g)
       by (inr (inr g)) = absurd g

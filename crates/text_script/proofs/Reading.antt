@@ -17,23 +17,22 @@ use Rattle.text.specs.Ascii.{ascii}
 use Rattle.text.specs.Places.{MatchedRuns, RangedRuns}
 use Rattle.text.specs.Read.{byte_at, number_at, match_at, ranged_of, ranged_at}
 use Rattle.text.specs.declared.answer.Fault.{Fault}
-use Rattle.text.specs.declared.head.InRange.{InRange}
-use Rattle.text.specs.declared.head.InRange.TheVariants.{Inside, Unfit}
-use Rattle.text.specs.declared.head.Matched.{Matched}
-use Rattle.text.specs.declared.head.Matched.TheVariants.{Past, Differs}
-use Rattle.text.specs.declared.number.Numeral.{Numeral}
-use Rattle.text.specs.declared.number.Numeral.TheVariants.{Value, Missing}
-use Rattle.lines.specs.Format.{choice, first, pick, is_picked, starts, Choice, words, number, missing, picked}
+use Rattle.lines.specs.Format.{choice, first, pick, starts, Choice, words, number}
 use Rattle.lines.specs.Reading.{match_then, word_then, number_then, read_piece, end_or, read_from, mapped}
 use Rattle.lines.proofs.Local.{word_read, read_step}
-use Rattle.text_script.specs.Answers.{script_outcome, Told}
-use Rattle.text_script.specs.Lines.{line_then, Reads, ended_by, unfit_as, LineRuns}
+use Rattle.text_script.specs.Answers.{Told}
+use Rattle.text_script.specs.Faults.{refusal_of, fault_of}
+use Rattle.text_script.specs.Lines.{line_then, Reads, ended_by, LineRuns}
 use Rattle.text_script.specs.Script.{with, line_choices, opened_choices, sign_choices, script_piece, script_ends, script_format, State}
 use Rattle.text_script.specs.Script.{steps_in, room_for, read_steps, line, opened, setting, set_to, sign, dropping, dropped}
-use Rattle.text_script.specs.declared.line.LineReading.{LineReading}
-use Rattle.text_script.specs.declared.script.Script.{Script}
-use Rattle.text_script.specs.declared.script.ScriptReading.{ScriptReading}
+use Rattle.text_script.specs.declared.answer.Script.{Script}
+use Rattle.text_script.specs.declared.answer.ScriptFault.{ScriptFault}
+use Rattle.text_script.specs.declared.answer.ScriptFault.TheVariants.{Sizes, Shape, Variable}
 use Rattle.text_script.proofs.Lines.{script-formed}
+use Rattle.std.specs.Prelude.{Option, Some, None, Result, Ok, Err}
+use Rattle.text.specs.declared.answer.Misread.{Misread}
+use Rattle.text.specs.Answers.{misread}
+use Rattle.std.specs.Prelude.{is_some}
 
 module _ (s : List ℕ) (N room : ℕ) where
   -- reading on in a state from a place
@@ -45,16 +44,16 @@ module _ (s : List ℕ) (N room : ℕ) where
   step q at = read_step (script_format N room) (script-formed N room) s q at
 
   -- a word that the byte at the place picks
-  word-is : (at : ℕ) (cs : List (Choice State)) (c : Choice State) (x : Matched) → pick cs (byte_at s at) ≡ picked c
+  word-is : (at : ℕ) (cs : List (Choice State)) (c : Choice State) (x : Result ℕ ℕ) → pick cs (byte_at s at) ≡ Some c
       → match_at s at c.word ≡ x
       → word_then (script_format N room) s on at (pick cs (byte_at s at)) ≡ match_then (script_format N room) s (on c.next) x
   word-is at cs c x e d = word_read (script_format N room) (script-formed N room) s on at cs c x e d
 
   -- ---- the end of a line
-  ended : (es : List Step) (v a : ℕ) (x : Matched)
+  ended : (es : List Step) (v a : ℕ) (x : Result ℕ ℕ)
       → line_then s N room es (ended_by v a x) ≡ match_then (script_format N room) s (on (line (with es v a))) x
-  ended es v a (Past p) = refl
-  ended es v a (Differs p) = refl
+  ended es v a (Ok p) = refl
+  ended es v a (Err p) = refl
 
   module _ (es : List Step) (v at : ℕ) where
     yes-is : byte_at s at ≡ 121 → line_then s N room es (ended_by v 1 (match_at s at (ascii "yes)\n"))) ≡ on (sign es v) at
@@ -71,7 +70,7 @@ module _ (s : List ℕ) (N room : ℕ) where
 
     unsigned : byte_at s at ≢ 121 → byte_at s at ≢ 110 → refused 54 at ≡ on (sign es v) at
     unsigned m n =
-        let e : pick (sign_choices es v) (byte_at s at) ≡ missing =
+        let e : pick (sign_choices es v) (byte_at s at) ≡ None =
         rw (ne_eqb 121 (byte_at s at) (λ e. m (sym e)), ne_eqb 110 (byte_at s at) (λ e. n (sym e))) in
         sym (step (sign es v) at ∙ ap (word_then (script_format N room) s on at) e)
 
@@ -85,7 +84,7 @@ module _ (s : List ℕ) (N room : ℕ) where
     unfolding match_at
     space-is e =
         let c : Choice State = choice (ascii " ") (sign es v) in
-        sym (step (set_to es v) at ∙ word-is at (c ∷ []) c (Past (at + 1)) (rw e) (rw e))
+        sym (step (set_to es v) at ∙ word-is at (c ∷ []) c (Ok (at + 1)) (rw e) (rw e))
 
   -- ---- a variable before the byte that is to follow it
   -- the state q asks for a variable, and after it for the one word w
@@ -95,9 +94,9 @@ module _ (s : List ℕ) (N room : ℕ) where
     pub follow : (v : ℕ) → script_piece N room (next v) ≡ words (choice w (after v) ∷ [])
     pub follow-goes : (v : ℕ) → script_ends (next v) ≡ false
 
-  abbrev RangedThen : List Step → State → (ℕ → State) → ℕ → ℕ → InRange → Type 0
-  RangedThen es q next b at (Unfit f p) = line_then s N room es (unfit_as f p) ≡ on q at
-  RangedThen es q next b at (Inside v p) = (byte_at s p ≡ b) × (on (next v) p ≡ on q at)
+  abbrev RangedThen : List Step → State → (ℕ → State) → ℕ → ℕ → Result (ℕ × ℕ) Misread → Type 0
+  RangedThen es q next b at (Err m) = refusal_of (fault_of m) ≡ on q at
+  RangedThen es q next b at (Ok (v, p)) = (byte_at s p ≡ b) × (on (next v) p ≡ on q at)
 
   module _ (es : List Step) (q : State) (next after : ℕ → State) (w : List ℕ) (h : Asks q next after w) (at : ℕ) where
     -- the number is read
@@ -112,25 +111,25 @@ module _ (s : List ℕ) (N room : ℕ) where
     -- another byte than the word's first
     stuck : (v p : ℕ) → byte_at s p ≢ first w → on (next v) p ≡ refused 54 p
     stuck v p n =
-        let e : pick (choice w (after v) ∷ []) (byte_at s p) ≡ missing = rw (ne_eqb (first w) (byte_at s p) (λ e. n (sym e))) in
+        let e : pick (choice w (after v) ∷ []) (byte_at s p) ≡ None = rw (ne_eqb (first w) (byte_at s p) (λ e. n (sym e))) in
         step (next v) p
         ∙ ap (λ (t : Bool).
         cond (t && eqb (byte_at s p) 256) (answered (next v)) (read_piece (script_format N room) s on p (script_piece N room (next v))))
         (h.follow-goes v)
         ∙ ap (read_piece (script_format N room) s on p) (h.follow v) ∙ ap (word_then (script_format N room) s on p) e
 
-    begins : (v b : ℕ) → starts b (script_piece N room (next v)) ≡ is_picked (pick (choice w (after v) ∷ []) b)
+    begins : (v b : ℕ) → starts b (script_piece N room (next v)) ≡ is_some (pick (choice w (after v) ∷ []) b)
     begins v b = ap (starts b) (h.follow v)
 
-    ranged-by : (x : Numeral) → on q at ≡ number_then (script_format N room) s on (λ v. ltb v N) 55 next at x
+    ranged-by : (x : Option (ℕ × ℕ)) → on q at ≡ number_then (script_format N room) s on (λ v. ltb v N) 55 next at x
         → RangedThen es q next (first w) at (ranged_of s at 0 N (first w) Fault.Range x)
-    ranged-by Missing e = sym e
-    ranged-by (Value v p) e = by (same? (byte_at s p) (first w)) (dec_lt v N)
+    ranged-by None e = sym e
+    ranged-by (Some (v, p)) e = by (same? (byte_at s p) (first w)) (dec_lt v N)
       where
         by : (byte_at s p ≡ first w) ⊎ (byte_at s p ≢ first w) → Dec (v < N)
             → RangedThen es q next (first w) at
             (cond (eqb (byte_at s p) (first w))
-            (cond (ltb v 0) (Unfit Fault.Range p) (cond (leb N v) (Unfit Fault.Range p) (Inside v p))) (Unfit Fault.Shape p))
+            (cond (ltb v 0) (misread Fault.Range p) (cond (leb N v) (misread Fault.Range p) (Ok (v, p)))) (misread Fault.Shape p))
         by (inl i) (yes l) =
             rw (eq-eqb (byte_at s p) (first w) i, le-ltb v 0 (omega arith), lt-leb N v l)
             (i, sym (e ∙ rw (lt-ltb v N l)))
@@ -147,7 +146,7 @@ module _ (s : List ℕ) (N room : ℕ) where
             begins v (byte_at s p) ∙ rw (ne_eqb (first w) (byte_at s p) (λ i. n (sym i))) in
             rw (ne_eqb (byte_at s p) (first w) n) (sym (e ∙ rw (le-ltb v N m, t)))
 
-    ranged-is : (x : InRange) → x ≡ ranged_at s at 0 N (first w) Fault.Range → RangedThen es q next (first w) at x
+    ranged-is : (x : Result (ℕ × ℕ) Misread) → x ≡ ranged_at s at 0 N (first w) Fault.Range → RangedThen es q next (first w) at x
     unfolding ranged_at
     ranged-is x e = subst (RangedThen es q next (first w) at) (sym e) (ranged-by (number_at s at) value-is)
 
@@ -159,31 +158,31 @@ module _ (s : List ℕ) (N room : ℕ) where
 
   -- ---- a line from its word on
   module _ (es : List Step) (at : ℕ) where
-    abbrev keyword : (List Step → State) → Matched → Outcome State
-    keyword q (Past p) = on (q es) p
-    keyword q (Differs p) = refused 54 p
+    abbrev keyword : (List Step → State) → Result ℕ ℕ → Outcome State
+    keyword q (Ok p) = on (q es) p
+    keyword q (Err p) = refused 54 p
 
-    set_is : byte_at s at ≡ 115 → (x : Matched) → x ≡ match_at s at (ascii "set ") → keyword setting x ≡ on (opened es) at
+    set_is : byte_at s at ≡ 115 → (x : Result ℕ ℕ) → x ≡ match_at s at (ascii "set ") → keyword setting x ≡ on (opened es) at
     set_is e x d =
         let c : Choice State = choice (ascii "set ") (setting es) in
         by x ∙ sym (step (opened es) at ∙ word-is at (opened_choices es) c x (rw e) (sym d))
       where
-        by : (x : Matched) → keyword setting x ≡ match_then (script_format N room) s (on (setting es)) x
-        by (Past p) = refl
-        by (Differs p) = refl
+        by : (x : Result ℕ ℕ) → keyword setting x ≡ match_then (script_format N room) s (on (setting es)) x
+        by (Ok p) = refl
+        by (Err p) = refl
 
-    drop-is : byte_at s at ≡ 100 → (x : Matched) → x ≡ match_at s at (ascii "drop ") → keyword dropping x ≡ on (opened es) at
+    drop-is : byte_at s at ≡ 100 → (x : Result ℕ ℕ) → x ≡ match_at s at (ascii "drop ") → keyword dropping x ≡ on (opened es) at
     drop-is e x d =
         let c : Choice State = choice (ascii "drop ") (dropping es) in
         by x ∙ sym (step (opened es) at ∙ word-is at (opened_choices es) c x (rw e) (sym d))
       where
-        by : (x : Matched) → keyword dropping x ≡ match_then (script_format N room) s (on (dropping es)) x
-        by (Past p) = refl
-        by (Differs p) = refl
+        by : (x : Result ℕ ℕ) → keyword dropping x ≡ match_then (script_format N room) s (on (dropping es)) x
+        by (Ok p) = refl
+        by (Err p) = refl
 
     other-is : byte_at s at ≢ 115 → byte_at s at ≢ 100 → refused 54 at ≡ on (opened es) at
     other-is m n =
-        let e : pick (opened_choices es) (byte_at s at) ≡ missing =
+        let e : pick (opened_choices es) (byte_at s at) ≡ None =
         rw (ne_eqb 115 (byte_at s at) (λ e. m (sym e)), ne_eqb 100 (byte_at s at) (λ e. n (sym e))) in
         sym (step (opened es) at ∙ ap (word_then (script_format N room) s on at) e)
 
@@ -210,116 +209,104 @@ module _ (s : List ℕ) (N room : ℕ) where
         let cs : line_choices room es ≡ c ∷ [] = rw (lt-ltb (length es) room l) in
         sym (step (line es) at ∙ rw (ne_eqb (byte_at s at) 256 (λ i. absurd (omega arith)))
         (ap (λ (z : List (Choice State)). word_then (script_format N room) s on at (pick z (byte_at s at))) cs
-        ∙ word-is at (c ∷ []) c (Past (at + 1)) (rw e) (rw e)))
+        ∙ word-is at (c ∷ []) c (Ok (at + 1)) (rw e) (rw e)))
 
 -- ---- the same, whatever the room and the steps before
-later-runs : (s : List ℕ) (at p : ℕ) (r : LineReading) → at ≤ p → LineRuns s p r → LineRuns s at r
-later-runs s at p (LineReading.Step v a q) l (m, n) = (omega arith, n)
-later-runs s at p (LineReading.Shape q) l h = tt
-later-runs s at p (LineReading.Variable q) l h = tt
-
-unfit-runs : (s : List ℕ) (at p : ℕ) (f : Fault) → LineRuns s at (unfit_as f p)
-unfit-runs s at p Fault.Length = tt
-unfit-runs s at p Fault.Shape = tt
-unfit-runs s at p Fault.Range = tt
-unfit-runs s at p Fault.Reference = tt
-unfit-runs s at p Fault.Depth = tt
-unfit-runs s at p Fault.Nodes = tt
+later-runs : (s : List ℕ) (at p : ℕ) (r : Result (Step × ℕ) ScriptFault) → at ≤ p → LineRuns s p r → LineRuns s at r
+later-runs s at p (Ok (t, q)) l (m, n) = (omega arith, n)
+later-runs s at p (Err e) l h = tt
 
 module _ (s : List ℕ) (N at : ℕ) where
   -- the sign and the end of the line
   module _ (v : ℕ) {c : ℕ} (b : c ≡ byte_at s at) where
-    pub yes-reads : {r : LineReading} → c ≡ 121 → r ≡ ended_by v 1 (match_at s at (ascii "yes)\n")) → Reads s N (λ es. sign es v) at r
+    pub yes-reads : {r : Result (Step × ℕ) ScriptFault} → c ≡ 121 → r ≡ ended_by v 1 (match_at s at (ascii "yes)\n"))
+        → Reads s N (λ es. sign es v) at r
     yes-reads e d room es = ap (line_then s N room es) d ∙ yes-is s N room es v at (sym b ∙ e)
 
-    pub no_reads : {r : LineReading} → c ≡ 110 → r ≡ ended_by v 0 (match_at s at (ascii "no)\n")) → Reads s N (λ es. sign es v) at r
+    pub no_reads : {r : Result (Step × ℕ) ScriptFault} → c ≡ 110 → r ≡ ended_by v 0 (match_at s at (ascii "no)\n"))
+        → Reads s N (λ es. sign es v) at r
     no_reads e d room es = ap (line_then s N room es) d ∙ no-is s N room es v at (sym b ∙ e)
 
-    pub unsigned_reads : c ≢ 121 → c ≢ 110 → Reads s N (λ es. sign es v) at (LineReading.Shape at)
+    pub unsigned_reads : c ≢ 121 → c ≢ 110 → Reads s N (λ es. sign es v) at (Err (Shape at))
     unsigned_reads m n room es = unsigned s N room es v at (λ e. m (b ∙ e)) (λ e. n (b ∙ e))
 
   -- ---- the variable of a line; a reading, and where it stands
-  abbrev Line : (List Step → State) → LineReading → Type 0
+  abbrev Line : (List Step → State) → Result (Step × ℕ) ScriptFault → Type 0
   Line q r = Reads s N q at r × LineRuns s at r
 
-  unfit-line : (q : List Step → State) (r : LineReading) (f : Fault) (p : ℕ) → r ≡ unfit_as f p
-      → ((room : ℕ) (es : List Step) → line_then s N room es (unfit_as f p) ≡ read_from (script_format N room) s (q es) at) → Line q r
-  unfit-line q r f p d h =
-      (λ room es. ap (line_then s N room es) d ∙ h room es, subst (LineRuns s at) (sym d) (unfit-runs s at p f))
+  pub set-unfit : (m : Misread) → Err m ≡ ranged_at s at 0 N 32 Fault.Range → Line setting (Err (fault_of m))
+  set-unfit m e =
+      ((λ room es. ranged-is s N room es (setting es) (set_to es) (sign es) (ascii " ") (set-asks s N room es) at (Err m) e), tt)
 
-  pub set-unfit : {r : LineReading} (f : Fault) (p : ℕ) → Unfit f p ≡ ranged_at s at 0 N 32 Fault.Range → r ≡ unfit_as f p → Line setting r
-  set-unfit {r} f p e d =
-      unfit-line setting r f p d
-      (λ room es. ranged-is s N room es (setting es) (set_to es) (sign es) (ascii " ") (set-asks s N room es) at (Unfit f p) e)
-
-  pub set-inside : (r : LineReading) (v p : ℕ) → Inside v p ≡ ranged_at s at 0 N 32 Fault.Range → RangedRuns s at N (Inside v p)
+  pub set-inside : (r : Result (Step × ℕ) ScriptFault) (v p : ℕ) → Ok (v, p) ≡ ranged_at s at 0 N 32 Fault.Range
+      → RangedRuns s at N (Ok (v, p))
       → Reads s N (λ es. sign es v) (p + 1) r × LineRuns s (p + 1) r → Line setting r
   set-inside r v p e n (h, k) = (go, later-runs s at (p + 1) r (omega (arith, n.0)) k)
     where
       go : Reads s N setting at r
       go room es =
-          let (b, i) = ranged-is s N room es (setting es) (set_to es) (sign es) (ascii " ") (set-asks s N room es) at (Inside v p) e in
+          let (b, i) = ranged-is s N room es (setting es) (set_to es) (sign es) (ascii " ") (set-asks s N room es) at (Ok (v, p)) e in
           h room es ∙ space-is s N room es v p b ∙ i
 
-  pub drop-unfit : {r : LineReading} (f : Fault) (p : ℕ) → Unfit f p ≡ ranged_at s at 0 N 41 Fault.Range → r ≡ unfit_as f p → Line dropping r
-  drop-unfit {r} f p e d =
-      unfit-line dropping r f p d
-      (λ room es.
-      ranged-is s N room es (dropping es) (dropped es) (λ v. line (with es v 2)) (ascii ")\n") (drop-asks s N room es) at (Unfit f p) e)
+  pub drop-unfit : (m : Misread) → Err m ≡ ranged_at s at 0 N 41 Fault.Range → Line dropping (Err (fault_of m))
+  drop-unfit m e = (
+    (λ room es.
+        ranged-is s N room es (dropping es) (dropped es) (λ v. line (with es v 2)) (ascii ")\n") (drop-asks s N room es) at (Err m) e),
+    tt,
+  )
 
-  pub drop-inside : (r : LineReading) (v p : ℕ) → Inside v p ≡ ranged_at s at 0 N 41 Fault.Range → RangedRuns s at N (Inside v p)
+  pub drop-inside : (r : Result (Step × ℕ) ScriptFault) (v p : ℕ) → Ok (v, p) ≡ ranged_at s at 0 N 41 Fault.Range
+      → RangedRuns s at N (Ok (v, p))
       → (r ≡ ended_by v 2 (match_at s p (ascii ")\n"))) × LineRuns s p r → Line dropping r
   drop-inside r v p e n (d, k) = (go, later-runs s at p r (omega (arith, n.0)) k)
     where
       go : Reads s N dropping at r
       go room es =
           let (b, i) = ranged-is s N room es (dropping es) (dropped es) (λ v. line (with es v 2)) (ascii ")\n") (drop-asks s N room es) at
-          (Inside v p) e in
+          (Ok (v, p)) e in
           ap (line_then s N room es) d ∙ dropped-is s N room es v p b ∙ i
 
   -- ---- the word of a line
   module _ {c : ℕ} (b : c ≡ byte_at s at) where
-    pub set-differs : (p : ℕ) → c ≡ 115 → Differs p ≡ match_at s at (ascii "set ") → Reads s N opened at (LineReading.Shape p)
-    set-differs p e d room es = set_is s N room es at (sym b ∙ e) (Differs p) d
+    pub set-differs : (p : ℕ) → c ≡ 115 → Err p ≡ match_at s at (ascii "set ") → Reads s N opened at (Err (Shape p))
+    set-differs p e d room es = set_is s N room es at (sym b ∙ e) (Err p) d
 
-    pub set_past : (r : LineReading) (p : ℕ) → c ≡ 115 → Past p ≡ match_at s at (ascii "set ") → MatchedRuns s at (Past p)
+    pub set_past : (r : Result (Step × ℕ) ScriptFault) (p : ℕ) → c ≡ 115 → Ok p ≡ match_at s at (ascii "set ") → MatchedRuns s at (Ok p)
         → Reads s N setting p r × LineRuns s p r → Line opened r
-    set_past r p e d m (h, k) = (λ room es. h room es ∙ set_is s N room es at (sym b ∙ e) (Past p) d, later-runs s at p r m.0 k)
+    set_past r p e d m (h, k) = (λ room es. h room es ∙ set_is s N room es at (sym b ∙ e) (Ok p) d, later-runs s at p r m.0 k)
 
-    pub drop-differs : (p : ℕ) → c ≡ 100 → Differs p ≡ match_at s at (ascii "drop ") → Reads s N opened at (LineReading.Shape p)
-    drop-differs p e d room es = drop-is s N room es at (sym b ∙ e) (Differs p) d
+    pub drop-differs : (p : ℕ) → c ≡ 100 → Err p ≡ match_at s at (ascii "drop ") → Reads s N opened at (Err (Shape p))
+    drop-differs p e d room es = drop-is s N room es at (sym b ∙ e) (Err p) d
 
-    pub drop_past : (r : LineReading) (p : ℕ) → c ≡ 100 → Past p ≡ match_at s at (ascii "drop ") → MatchedRuns s at (Past p)
+    pub drop_past : (r : Result (Step × ℕ) ScriptFault) (p : ℕ) → c ≡ 100 → Ok p ≡ match_at s at (ascii "drop ") → MatchedRuns s at (Ok p)
         → Reads s N dropping p r × LineRuns s p r → Line opened r
-    drop_past r p e d m (h, k) = (λ room es. h room es ∙ drop-is s N room es at (sym b ∙ e) (Past p) d, later-runs s at p r m.0 k)
+    drop_past r p e d m (h, k) = (λ room es. h room es ∙ drop-is s N room es at (sym b ∙ e) (Ok p) d, later-runs s at p r m.0 k)
 
-    pub other-reads : c ≢ 115 → c ≢ 100 → Reads s N opened at (LineReading.Shape at)
+    pub other-reads : c ≢ 115 → c ≢ 100 → Reads s N opened at (Err (Shape at))
     other-reads m n room es = other-is s N room es at (λ e. m (b ∙ e)) (λ e. n (b ∙ e))
 
 -- ---- what the code answers
-pub told-steps : (room : ℕ) (r : Script) (o : Outcome State) (es : List Step) → answered (line es) ≡ o
-    → (script_outcome r.reading ≡ answered (length es)) × (r.count ≡ length es) × (r.columns ≡ columns es) × (length es ≤ room)
-    → Told room r (mapped steps_in o)
-told-steps room r o es e h = subst (λ (z : Outcome State). Told room r (mapped steps_in z)) e h
+pub told-steps : (room : ℕ) (r : Result Script ScriptFault) (o : Outcome State) (es : List Step) → answered (line es) ≡ o
+    → r ≡ Ok (record { columns = columns es; count = length es }) → length es ≤ room → Told room r (mapped steps_in o)
+told-steps room r o es e h l = subst (λ (z : Outcome State). Told room r (mapped steps_in z)) e (h, l)
 
-pub told-refused : (room : ℕ) (r : Script) (o : Outcome State) (k p : ℕ) → refused k p ≡ o → script_outcome r.reading ≡ refused k p
-    → r.count ≡ 0 → Told room r (mapped steps_in o)
-told-refused room r o k p e h n = subst (λ (z : Outcome State). Told room r (mapped steps_in z)) e (h, n)
+pub told-refused : (room : ℕ) (f : ScriptFault) (o : Outcome State) → refusal_of f ≡ o → Told room (Err f) (mapped steps_in o)
+told-refused room f o e = subst (λ (z : Outcome State). Told room (Err f) (mapped steps_in z)) e (told f)
+  where
+    told : (f : ScriptFault) → Told room (Err f) (mapped steps_in (refusal_of f))
+    told Sizes = refl
+    told (Shape p) = refl
+    told (Variable p) = refl
 
-module _ (s : List ℕ) (N l : ℕ) (r : Script) where
-  pub too_few : N < 1 → (r.count ≡ 0) × (r.reading ≡ ScriptReading.Sizes) → Told (room_for l) r (read_steps s N l)
+module _ (s : List ℕ) (N l : ℕ) where
+  pub misfits : (N < 1) ⊎ ((1 ≤ N) × (40 < N)) → Told (room_for l) (Err Sizes) (read_steps s N l)
   unfolding read_steps
-  too_few h (n, e) = rw (lt-leb 1 N h) (ap script_outcome e, n)
+  misfits (inl h) = rw (lt-leb 1 N h) refl
+  misfits (inr h) = rw (le-leb 1 N h.0, lt-leb N 40 h.1) refl
 
-  module _ (low : 1 ≤ N) where
-    pub too_many : 40 < N → (r.count ≡ 0) × (r.reading ≡ ScriptReading.Sizes) → Told (room_for l) r (read_steps s N l)
-    unfolding read_steps
-    too_many h (n, e) = rw (le-leb 1 N low, lt-leb N 40 h) (ap script_outcome e, n)
-
-    module _ (high : N ≤ 40) where
-      pub reads_all : (room : ℕ) → room ≡ room_for l → Told room r (mapped steps_in (read_from (script_format N room) s (line []) 0))
-          → Told (room_for l) r (read_steps s N l)
-      unfolding read_steps
-      reads_all room e h =
-          rw (le-leb 1 N low, le-leb N 40 high)
-          (subst (λ (z : ℕ). Told z r (mapped steps_in (read_from (script_format N z) s (line []) 0))) e h)
+  pub reads_all : (r : Result Script ScriptFault) → 1 ≤ N → N ≤ 40 → (room : ℕ) → room ≡ room_for l
+      → Told room r (mapped steps_in (read_from (script_format N room) s (line []) 0)) → Told (room_for l) r (read_steps s N l)
+  unfolding read_steps
+  reads_all r low high room e h =
+      rw (le-leb 1 N low, le-leb N 40 high)
+      (subst (λ (z : ℕ). Told z r (mapped steps_in (read_from (script_format N z) s (line []) 0))) e h)

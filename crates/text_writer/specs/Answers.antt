@@ -1,11 +1,11 @@
 -- The answer of the writing, by the scope's numbers.
-use Rattle.std.specs.Prelude.{ℕ}
+use Rattle.std.specs.Prelude.{ℕ, Result, Ok, Err}
 use Rattle.table.specs.Outcome.{refused_by, Outcome, answered, refused}
-use Rattle.text_writer.specs.declared.writer.Written.{Written}
-use Rattle.text_writer.specs.declared.writer.Written.TheVariants.{Done, Refused, Sink}
+use Rattle.text_writer.specs.declared.fault.WriteFault.{WriteFault}
+use Rattle.text_writer.specs.declared.fault.WriteFault.TheVariants.{Table, Sink}
 
 -- the length
-abbrev pub written_of : Written → Outcome ℕ
-written_of (Done n) = answered n
-written_of (Refused why) = refused_by why
-written_of (Sink n) = refused 16 n
+abbrev pub written_of : Result ℕ WriteFault → Outcome ℕ
+written_of (Ok n) = answered n
+written_of (Err (Table why)) = refused_by why
+written_of (Err (Sink n)) = refused 16 n

@@ -12,7 +12,6 @@ pub fn put(d: &mut [u8], at: usize, b: u8) -> usize
 {
     if at < d.len() {
         d[at] = b;
-        return at + 1;
     }
     at + 1
 }
@@ -22,11 +21,9 @@ pub fn put_bytes(d: &mut [u8], at: usize, w: &[u8]) -> usize
     requires { (at < 900000) × (length w.now ≤ 16) }
     ensures { Wrote d.old at d.new result w.now × (result ≤ at + 16) }
 {
-    let mut i: usize = 0;
     let mut p = at;
-    while i < w.len() {
-        p = put(d, p, w[i]);
-        i = i + 1;
+    for b in w {
+        p = put(d, p, *b);
     }
     p
 }

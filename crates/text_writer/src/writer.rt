@@ -9,21 +9,11 @@ ghost use Rattle.text.specs.Syntax.{decimal, print_form, print_forms, constant_f
 ghost use Rattle.text.specs.Write.{line_forms, node_form, table_text, write_text, write_table};
 ghost use Rattle.text_writer.specs.Sink.{Wrote, WriteIs};
 
+use super::fault::WriteFault;
 use super::sink::{put_bytes, put_number};
 use table::gates::{Decoded, Gate, decode_at};
 use table::layout::Children;
 use table::words::check_words;
-use table::{Checked, Refusal};
-
-#[derive(Clone, Copy)]
-pub enum Written {
-    // the length of the text
-    Done(usize),
-    // 21 or 22
-    Refused(Refusal),
-    // 16: the length that is needed
-    Sink(usize),
-}
 
 // A word with its number, and the closing bracket.
 fn put_numbered(d: &mut [u8], at: usize, word: &[u8], v: u32) -> usize
@@ -51,10 +41,8 @@ fn put_children(d: &mut [u8], at: usize, children: Children) -> usize
     let nodes = children.nodes;
     let count = children.count as usize;
     let mut p = at;
-    let mut k: usize = 0;
-    while k < count {
+    for k in 0..count {
         p = put_child(d, p, nodes[k]);
-        k += 1;
     }
     p
 }
@@ -135,13 +123,9 @@ fn put_table(d: &mut [u8], words: &[u32], variables: u32, nodes: usize) -> usize
     ensures { Wrote d.old 0 d.new result (table_text variables nodes words.now) }
 {
     let h = put_numbered(d, 0, b"(circuit ", variables);
-    let g = put_bytes(d, h, b"\n");
-    let mut p = g;
-    let mut i: usize = 0;
-    while i < nodes {
-        let node = decode_at(words, i);
-        p = put_line(d, p, node);
-        i += 1;
+    let mut p = put_bytes(d, h, b"\n");
+    for i in 0..nodes {
+        p = put_line(d, p, decode_at(words, i));
     }
     p
 }
@@ -155,24 +139,32 @@ fn measure(words: &[u32], variables: u32, nodes: usize) -> usize
     put_table(&mut none[..0], words, variables, nodes)
 }
 
-// The text into the sink, if it fits.
-fn write_fitting(words: &[u32], variables: u32, n: usize, sink: &mut [u8]) -> Written
+// The text into the sink, if it fits: its length.
+fn write_fitting(
+    words: &[u32],
+    variables: u32,
+    n: usize,
+    sink: &mut [u8],
+) -> Result<usize, WriteFault>
     requires { Readable n words.now }
     ensures { WriteIs result sink.new (write_text (table_text variables n words.now) sink.old) }
 {
     let need = measure(words, variables, n);
     if sink.len() < need {
-        return Written::Sink(need);
+        return Err(WriteFault::Sink(need));
     }
-    Written::Done(put_table(sink, words, variables, n))
+    Ok(put_table(sink, words, variables, n))
 }
 
-// Writes a table as text: node i as line i. A refusal leaves the sink unchanged.
-pub fn write(words: &[u32], variables: u32, nodes: u32, sink: &mut [u8]) -> Written
+// Writes a table as text, node i as line i: the length of the text. A refusal leaves the sink unchanged.
+pub fn write(
+    words: &[u32],
+    variables: u32,
+    nodes: u32,
+    sink: &mut [u8],
+) -> Result<usize, WriteFault>
     ensures { WriteIs result sink.new (write_table variables nodes words.now sink.old) }
 {
-    match check_words(words, variables, nodes) {
-        Checked::Refused(why) => Written::Refused(why),
-        Checked::Accepted => write_fitting(words, variables, nodes as usize, sink),
-    }
+    check_words(words, variables, nodes)?;
+    write_fitting(words, variables, nodes as usize, sink)
 }

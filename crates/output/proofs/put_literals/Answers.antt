@@ -1,5 +1,5 @@
-use Prim.Native.Nat.{ℕ, ◌+◌, ◌*◌, ◌≤◌}
-use mathlib.Core.Path.{◌≡◌, refl, ap, ◌∙◌}
+use Prim.Native.Nat.{ℕ, ◌+◌}
+use mathlib.Core.Path.{◌≡◌, ap}
 use mathlib.Core.Bool.{Bool}
 use mathlib.Core.List.{List}
 use native.Mathlib.Omega.{arith}
@@ -24,21 +24,16 @@ one_more t v h k x y z =
 
 pub loop-v-init : goal.loop-v-init
 unfolding literals_text
-loop-v-init c = (omega arith, omega arith, refl, nothing)
+loop-v-init c = (omega arith, nothing)
 
 pub loop-v-preserved : goal.loop-v-preserved
-loop-v-preserved c =
-    let l : c.loop-v.v + 1 ≤ 64 = omega arith in
-    let m : c.put_mark-p.result ≤ c.args.start + 40 * (c.loop-v.v + 1) = omega
-    (arith, c.put_mark-p.ensures.1, c.put_mark-q.ensures.1, c.loop-v.invariant.1) in (
-      l,
-      m,
-      c.put_mark-p.auto.d ∙ c.put_mark-q.auto.d ∙ c.loop-v.invariant.2,
-      one_more c.args.t c.loop-v.v c.has_bit.ensures c.has_bit-in-loop-v.ensures
-          c.loop-v.invariant.3 c.put_mark-q.ensures.0 c.put_mark-p.ensures.0,
-    )
+loop-v-preserved c = (
+  omega (arith, c.put_mark-p.ensures.1, c.put_mark-q.ensures.1, c.loop-v.invariant.0),
+  one_more c.args.t c.loop-v.v c.has_bit.ensures c.has_bit-in-loop-v.ensures c.loop-v.invariant.1 c.put_mark-q.ensures.0
+      c.put_mark-p.ensures.0,
+)
 
 pub returns : goal.returns
 returns c =
-    let e : c.loop-v.v ≡ 64 = omega arith in
-    (same (ap (literals_text c.args.t) e) c.loop-v.invariant.3, omega (arith, c.loop-v.invariant.1))
+    let e : c.loop-v.v ≡ 64 = omega (arith, c.loop-v-test.false, c.loop-v.auto.v-end) in
+    (same (ap (literals_text c.args.t) e) c.loop-v.invariant.1, omega (arith, c.loop-v.invariant.0))

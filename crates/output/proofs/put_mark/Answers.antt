@@ -1,6 +1,6 @@
 -- `output::put_mark` meets its contract.
 use native.Mathlib.Omega.{arith}
-use Rattle.text_writer.proofs.Sinks.{after, nothing}
+use Rattle.text_writer.proofs.Sinks.{after}
 use Rattle.output.proofs.put_mark.Goals as goal
 
 pub returns-then-here : goal.returns-then-here
@@ -8,6 +8,3 @@ returns-then-here c = (
   rw c.if-here.true (after c.put_bytes-p.ensures.0 c.put_number.ensures.0),
   omega (arith, c.put_bytes-p.ensures.1, c.put_number.ensures.1),
 )
-
-pub returns : goal.returns
-returns c = (rw c.if-here.false nothing, omega arith)

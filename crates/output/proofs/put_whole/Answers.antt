@@ -1,4 +1,4 @@
-use Prim.Native.Nat.{ℕ, zero, suc, ◌+◌, ◌-◌, ◌/◌, ◌*◌, ◌^◌, ◌≤◌, ◌<◌}
+use Prim.Native.Nat.{ℕ, zero, suc, ◌+◌, ◌-◌, ◌/◌, ◌*◌, ◌^◌, ◌<◌}
 use mathlib.Core.Path.{◌≡◌, refl, ap, ◌∙◌}
 use mathlib.Core.List.{List}
 use native.Mathlib.Nat.{pow-zero, pow-suc}
@@ -28,35 +28,29 @@ one_more : {d e f : List ℕ} {at p q u : ℕ} (j v : ℕ) → u ≡ 10 ^ (19 - 
 unfolding high_digits
 one_more j v h x y = rw add-one (after x (same (ap (λ (z : ℕ). digit_text z v) h) y))
 
-pub loop-j-init : goal.loop-j-init
+pub loop-init : goal.loop-init
 unfolding high_digits
-loop-j-init c = (omega arith, refl, omega arith, refl, nothing)
+loop-init c = (refl, omega arith, nothing)
 
 pub put_digit-p-requires : goal.put_digit-p-requires
 put_digit-p-requires c =
-    let l : 0 < c.loop-j.unit = omega (arith, c.loop-j.invariant.1, positive (19 - c.loop-j.j)) in
-    (omega (arith, c.loop-j.invariant.2), l)
+    let l : 0 < c.loop.unit = omega (arith, c.loop.invariant.0, positive (19 - c.loop.counter)) in
+    (omega (arith, c.loop.invariant.1, c.loop-test.true), l)
 
-pub loop-j-preserved : goal.loop-j-preserved
-loop-j-preserved c =
-    let l : c.loop-j.j + 1 ≤ 19 = omega arith in
-    let m : c.put_digit-p.result ≤ c.args.at + (c.loop-j.j + 1) = omega
-    (arith, c.put_digit-p.ensures.1, c.loop-j.invariant.2) in (
-      l,
-      tenth c.loop-j.j c.loop-j.unit c.loop-j-test.true c.loop-j.invariant.1,
-      m,
-      c.put_digit-p.auto.d ∙ c.loop-j.invariant.3,
-      one_more c.loop-j.j c.args.v c.loop-j.invariant.1 c.loop-j.invariant.4 c.put_digit-p.ensures.0,
-    )
+pub loop-preserved : goal.loop-preserved
+loop-preserved c = (
+  tenth c.loop.counter c.loop.unit c.loop-test.true c.loop.invariant.0,
+  omega (arith, c.put_digit-p.ensures.1, c.loop.invariant.1),
+  one_more c.loop.counter c.args.v c.loop.invariant.0 c.loop.invariant.2 c.put_digit-p.ensures.0,
+)
 
 pub put-requires : goal.put-requires
-put-requires c =
-    omega (arith, c.loop-j.invariant.2)
+put-requires c = omega (arith, c.loop.invariant.1, c.loop.auto.counter-end)
 
 pub returns : goal.returns
 unfolding whole_decimal
 returns c =
-    let e : c.loop-j.j ≡ 19 = omega (arith, c.loop-j.invariant.0, c.loop-j-test.false) in
-    let high : Wrote c.args.d.now c.args.at c.loop-j.d c.loop-j.p (high_digits 19 c.args.v) =
-    same (ap (λ (j : ℕ). high_digits j c.args.v) e) c.loop-j.invariant.4 in
-    (after high c.put.ensures.0, omega (arith, c.put.ensures.1, c.loop-j.invariant.2, e))
+    let e : c.loop.counter ≡ 19 = omega (arith, c.loop.auto.counter-end, c.loop-test.false) in
+    let high : Wrote c.args.d.now c.args.at c.loop.d c.loop.p (high_digits 19 c.args.v) =
+    same (ap (λ (j : ℕ). high_digits j c.args.v) e) c.loop.invariant.2 in
+    (after high c.put.ensures.0, omega (arith, c.put.ensures.1, c.loop.invariant.1, e))

@@ -1,37 +1,30 @@
 -- `text::number::digit` meets its contract.
-use Prim.Native.Nat.{ℕ, ◌-◌, ◌<◌, ◌≤◌}
-use mathlib.Core.List.{List}
-use mathlib.Core.Path.{◌≡◌, sym}
-use native.Mathlib.Omega.{arith}
+use Rattle.std.proofs.Common.{◌≡◌, ◌≤◌, ◌<◌, ◌-◌, ℕ, List, sym, arith}
 use borrow.Author.Tests.{lt-ltb, le-ltb}
 use Rattle.text.specs.Read.{byte_at, digit_at}
 use Rattle.text.proofs.Laws.{inside}
 use Rattle.text.proofs.number.digit.Goals as goal
 
 module _ (s : List ℕ) (at b : ℕ) (e : b ≡ byte_at s at) where
-  below : b < 48 → 10 ≡ digit_at s at
+  below : b < 48 → digit_at s at ≡ 10
   unfolding digit_at
   below h = rw (← e, lt-ltb b 48 h)
 
-  above : 48 ≤ b → 57 < b → 10 ≡ digit_at s at
+  above : 57 < b → digit_at s at ≡ 10
   unfolding digit_at
-  above l h = rw (← e, le-ltb b 48 l, lt-ltb 57 b h)
+  above h = rw (← e, le-ltb b 48 (omega arith), lt-ltb 57 b h)
 
-  value : 48 ≤ b → b ≤ 57 → b - 48 ≡ digit_at s at
+  value : 48 ≤ b → b ≤ 57 → digit_at s at ≡ b - 48
   unfolding digit_at
   value l h = rw (← e, le-ltb b 48 l, le-ltb 57 b h)
 
-pub returns-then-c-lt-FIRST_DIGIT : goal.returns-then-c-lt-FIRST_DIGIT
-returns-then-c-lt-FIRST_DIGIT c = (below _ _ _ c.byte_at-c.ensures c.if-c-lt-FIRST_DIGIT.true, omega arith, λ h. absurd (omega arith))
+pub returns-in-48-to-57 : goal.returns-in-48-to-57
+returns-in-48-to-57 c =
+    let l = inside c.args.s.now c.args.at (omega (arith, sym c.byte_at.ensures)) in
+    ((value _ _ _ c.byte_at.ensures (omega arith) (omega arith), omega arith), l)
 
-pub returns-then-c-gt-LAST_DIGIT : goal.returns-then-c-gt-LAST_DIGIT
-returns-then-c-gt-LAST_DIGIT c =
-    (above _ _ _ c.byte_at-c.ensures c.if-c-lt-FIRST_DIGIT.false c.if-c-gt-LAST_DIGIT.true, omega arith, λ h. absurd (omega arith))
+pub returns-in_default : goal.returns-in_default
+returns-in_default c = (below _ _ _ c.byte_at.ensures (omega arith), tt)
 
-pub returns : goal.returns
-returns c = (
-  value _ _ _ c.byte_at-c.ensures c.if-c-lt-FIRST_DIGIT.false c.if-c-gt-LAST_DIGIT.false,
-  omega arith,
-  λ h. inside
-      c.args.s.now c.args.at (omega (arith, sym c.byte_at-c.ensures)),
-)
+pub returns-in_default-2 : goal.returns-in_default-2
+returns-in_default-2 c = (above _ _ _ c.byte_at.ensures (omega arith), tt)

@@ -1,88 +1,89 @@
--- `text::number::number` meets its contract: each return rewrites the definition by the digits read and the tests on them.
-use Prim.Native.Nat.{ℕ, suc, ◌+◌, ◌*◌, ◌<◌, ◌≤◌}
-use mathlib.Core.List.{List}
-use mathlib.Core.Path.{◌≡◌, ◌∙◌}
-use native.Mathlib.Omega.{arith}
-use borrow.Author.Tests.{eq-eqb, ne_eqb}
+use Rattle.std.proofs.Common.{◌≡◌, ◌+◌, ◌-◌, ◌*◌, ◌^◌, ◌<◌, ◌≤◌, ℕ, zero, suc}
+use Rattle.std.proofs.Common.{List, Some, None, sym, ◌∙◌, add_assoc, add-one, pow-suc, lit≤, arith}
+use borrow.Author.Tests.{ne_eqb}
 use Rattle.text.specs.Read.{digit_at, digits_at, number_at}
-use Rattle.text.specs.declared.number.Numeral.TheVariants.{Value, Missing}
 use Rattle.text.proofs.number.number.Goals as goal
 
-module _ (s : List ℕ) (at a : ℕ) (ea : a ≡ digit_at s at) where
-  none : a ≡ 10 → Missing ≡ number_at s at
+module _ (s : List ℕ) (at : ℕ) where
+  none : digit_at s at ≡ 10 → None ≡ number_at s at
   unfolding number_at
-  none h = rw (← ea, eq-eqb a 10 h)
+  none e = rw e
 
-  nought : (a ≡ 10 → ⊥) → a ≡ 0 → Value 0 (at + 1) ≡ number_at s at
+  nought : (a : ℕ) → digit_at s at ≡ a → a < 10 → a ≡ 0 → Some (0, at + 1) ≡ number_at s at
   unfolding number_at
-  nought n h = rw (← ea, ne_eqb a 10 n, eq-eqb a 0 h)
+  nought a e l z = rw (e, z)
 
-  many : (a ≡ 10 → ⊥) → (a ≡ 0 → ⊥) → digits_at 3 s (at + 1) a ≡ number_at s at
+  begins : (a : ℕ) → digit_at s at ≡ a → a < 10 → (a ≡ 0 → ⊥) → number_at s at ≡ digits_at 3 s (at + 1) a
   unfolding number_at
-  many n h = rw (← ea, ne_eqb a 10 n, ne_eqb a 0 h)
+  begins a e l n = rw (e, ne_eqb a 10 (omega arith), ne_eqb a 0 n)
 
-module _ (k : ℕ) (s : List ℕ) (at v a : ℕ) (ea : a ≡ digit_at s at) where
-  stop : a ≡ 10 → Value v at ≡ digits_at (suc k) s at v
+most : (k : ℕ) → k ≤ 4 → 10 ^ k ≤ 10000
+most zero l = omega arith
+most (suc zero) l = omega arith
+most (suc (suc zero)) l = omega arith
+most (suc (suc (suc zero))) l = omega arith
+most (suc (suc (suc (suc zero)))) l = omega arith
+most (suc (suc (suc (suc (suc k))))) l = absurd (omega arith)
+
+-- the value of k digits
+module _ (k v : ℕ) where
+  small : k ≤ 4 → v < 10 ^ k → v < 10000
+  small l h = let b = most k l in omega arith
+
+  longer : (d : ℕ) → v < 10 ^ k → d < 10 → 10 * v + d < 10 ^ (k + 1)
+  longer d h l = let e : 10 ^ (k + 1) ≡ 10 ^ k * 10 = rw add-one (pow-suc 10 k) in omega arith
+
+-- after k digits
+module _ (k : ℕ) (s : List ℕ) (at v : ℕ) where
+  stop : k < 4 → digit_at s (at + k) ≡ 10 → Some (v, at + k) ≡ digits_at (4 - k) s (at + k) v
   unfolding digits_at
-  stop h = rw (← ea, eq-eqb a 10 h)
+  stop h e = let n : 4 - k ≡ suc (4 - (k + 1)) = omega arith in rw (n, e)
 
-  go : (a ≡ 10 → ⊥) → digits_at k s (at + 1) (10 * v + a) ≡ digits_at (suc k) s at v
+  go : k < 4 → (d : ℕ) → digit_at s (at + k) ≡ d → d < 10
+      → digits_at (4 - k) s (at + k) v ≡ digits_at (4 - (k + 1)) s (at + (k + 1)) (10 * v + d)
   unfolding digits_at
-  go h = rw (← ea, ne_eqb a 10 h)
+  go h d e l = let n : 4 - k ≡ suc (4 - (k + 1)) = omega arith in rw (n, e, ne_eqb d 10 (omega arith), ← add_assoc at k 1)
 
-digit-below : {a : ℕ} → a ≤ 10 → (a ≡ 10 → ⊥) → a < 10
-digit-below h n = omega arith
+  full : k ≡ 4 → Some (v, at + 4) ≡ digits_at (4 - k) s (at + k) v
+  unfolding digits_at
+  full e = rw e
 
-four-digits : {a b c d : ℕ} → a < 10 → b < 10 → c < 10 → d < 10 → 10 * (10 * (10 * a + b) + c) + d < 10000
-four-digits ha hb hc hd = omega arith
+pub returns-in_err-v : goal.returns-in_err-v
+returns-in_err-v c = rw c.from_residual.ensures (none _ _ c.in_err-v.ensures.0, tt)
 
-pub returns-then-a-eq10 : goal.returns-then-a-eq10
-returns-then-a-eq10 c =
-    (none _ _ _ c.digit-a.ensures.0 c.if-a-eq10.true, tt)
+pub returns-then-v-eq0 : goal.returns-then-v-eq0
+returns-then-v-eq0 c =
+    let d = c.in_ok-v.ensures in (nought _ _ _ d.0.0 d.0.1 c.if-v-eq0.true, (omega arith, omega (arith, d.1), omega arith))
 
-pub returns-then-a-eq0 : goal.returns-then-a-eq0
-returns-then-a-eq0 c = (
-  nought _ _ _ c.digit-a.ensures.0 c.if-a-eq10.false c.if-a-eq0.true,
-  omega (arith, c.digit-a.ensures.2 (omega arith)),
-)
+pub loop-k-init : goal.loop-k-init
+loop-k-init c =
+    let d = c.in_ok-v.ensures in (omega (arith, d.1), d.0.1, begins _ _ _ d.0.0 d.0.1 c.if-v-eq0.false)
 
-pub returns-then-b-eq10 : goal.returns-then-b-eq10
-returns-then-b-eq10 c = (
-  stop 2 _ _ _ _ c.digit-b.ensures.0 c.if-b-eq10.true ∙ many _ _ _ c.digit-a.ensures.0 c.if-a-eq10.false
-      c.if-a-eq0.false,
-  omega (arith, c.digit-a.ensures.2 (omega arith)),
-)
+pub returns-in_default : goal.returns-in_default
+returns-in_default c =
+    let i = c.loop-k.invariant in (
+      stop _ _ _ _ c.loop-k-test.true c.in_default.ensures.0 ∙ sym i.2,
+      (omega (arith, c.loop-k.auto.k), i.0, small _ _ (omega (arith, c.loop-k-test.true)) i.1),
+    )
 
-pub returns-then-c-eq10 : goal.returns-then-c-eq10
-returns-then-c-eq10 c = (
-  stop 1 _ _ _ _ c.digit-c.ensures.0 c.if-c-eq10.true
-      ∙ go 2 _ _ _ _ c.digit-b.ensures.0 c.if-b-eq10.false
-      ∙ many _ _ _ c.digit-a.ensures.0 c.if-a-eq10.false c.if-a-eq0.false,
-  omega (arith, c.digit-b.ensures.2 (omega arith)),
-)
+pub overflow_mul-v : goal.overflow_mul-v
+overflow_mul-v c = let l = small _ _ (omega (arith, c.loop-k-test.true)) c.loop-k.invariant.1 in omega arith
 
-pub returns-then-d-eq10 : goal.returns-then-d-eq10
-returns-then-d-eq10 c = (
-  stop 0 _ _ _ _ c.digit-d.ensures.0 c.if-d-eq10.true
-      ∙ go 1 _ _ _ _ c.digit-c.ensures.0 c.if-c-eq10.false
-      ∙ go 2 _ _ _ _ c.digit-b.ensures.0 c.if-b-eq10.false
-      ∙ many _ _ _ c.digit-a.ensures.0 c.if-a-eq10.false c.if-a-eq0.false,
-  omega (arith, c.digit-c.ensures.2 (omega arith)),
-)
+pub overflow_add-v : goal.overflow_add-v
+overflow_add-v c =
+    let l = small _ _ (omega (arith, c.loop-k-test.true)) c.loop-k.invariant.1 in omega (arith, c.in-Some.ensures.0.1)
+
+pub loop-k-preserved : goal.loop-k-preserved
+loop-k-preserved c =
+    let i = c.loop-k.invariant in
+    let d = c.in-Some.ensures in
+    (omega (arith, d.1), longer _ _ _ i.1 d.0.1, i.2 ∙ go _ _ _ _ c.loop-k-test.true _ d.0.0 d.0.1)
+
+at_end : (k : ℕ) → 4 ≤ k → (1 ≤ 4 → k ≤ 4) → k ≡ 4
+at_end k l h = let m = h (lit≤ tt) in omega arith
 
 pub returns : goal.returns
-unfolding digits_at
-returns c = (
-  go 0 _ _ _ _ c.digit-d.ensures.0 c.if-d-eq10.false
-      ∙ go 1 _ _ _ _ c.digit-c.ensures.0 c.if-c-eq10.false
-      ∙ go 2 _ _ _ _ c.digit-b.ensures.0 c.if-b-eq10.false
-      ∙ many _ _ _ c.digit-a.ensures.0 c.if-a-eq10.false c.if-a-eq0.false,
-  (
-    omega (arith, c.digit-d.ensures.2 (omega arith)),
-    omega (arith, c.digit-d.ensures.2 (omega arith)),
-    four-digits (digit-below c.digit-a.ensures.1 c.if-a-eq10.false)
-        (digit-below c.digit-b.ensures.1 c.if-b-eq10.false)
-        (digit-below c.digit-c.ensures.1 c.if-c-eq10.false)
-        (digit-below c.digit-d.ensures.1 c.if-d-eq10.false),
-  ),
-)
+returns c =
+    let i = c.loop-k.invariant in
+    let e = at_end _ c.loop-k-test.false c.loop-k.auto.k-end in
+    (full _ _ _ _ e ∙ sym i.2, (omega arith, omega (arith, e), small _ _ (omega (arith, e)) i.1))

@@ -6,9 +6,9 @@ use Rattle.text_assignment.specs.Line.{members}
 use Rattle.text_assignment.proofs.Members.{rest}
 use Rattle.text_assignment.proofs.assignment.members.Given as goal
 
-abbrev pub invariant-loop-p : goal.invariant-loop-p
-invariant-loop-p l =
+abbrev pub invariant-loop-v : goal.invariant-loop-v
+invariant-loop-v l =
     (l.at ≤ length l.s) × (rest l.s l.variables (members 0 0) l.start ≡ rest l.s l.variables (members l.low l.mask) l.at)
 
-abbrev pub decreases-loop-p : goal.decreases-loop-p
-decreases-loop-p l = length l.s - l.at
+abbrev pub decreases-loop-v : goal.decreases-loop-v
+decreases-loop-v l = length l.s - l.at

@@ -1,20 +1,20 @@
 use Prim.Native.Char.{code}
 use Prim.Native.Nat.{ℕ, suc, ◌+◌, ◌-◌, ◌<◌, ◌≤◌}
 use mathlib.Core.List.{List}
-use mathlib.Core.Path.{◌≡◌, refl, sym, subst, ◌∙◌}
+use mathlib.Core.Path.{◌≡◌, refl, sym, ◌∙◌}
 use native.Mathlib.Omega.{arith}
-use lib.ListN.{length, set, replicate, length-set}
+use lib.ListN.{set, replicate, length-set}
 use borrow.Author.Tests.{eq-eqb, ne_eqb}
-use Rattle.table.specs.Layout.{words_for}
 use Rattle.table.specs.Outcome.{Outcome}
 use Rattle.text.specs.Limits.{max_lines}
-use Rattle.text.specs.Places.{StepRuns, ReadIs}
+use Rattle.text.specs.Places.{ReadIs}
 use Rattle.text.specs.Read.{end, byte_at, form_at, setting, lines_at, line_end, ReadOut, Stepped}
-use Rattle.text.specs.declared.answer.Fault.{Fault}
 use Rattle.text.specs.declared.answer.Fault.TheVariants.{Shape, Nodes}
-use Rattle.text.specs.declared.answer.Reading.TheVariants.{Refused, Circuit}
-use Rattle.text.specs.declared.answer.Step.{Step}
-use Rattle.text.specs.declared.answer.Step.TheVariants.{Stop, Made}
+use Rattle.std.specs.Prelude.{Result, Ok, Err}
+use Rattle.std.proofs.lemmas.Result.{err_from_is_err_and}
+use Rattle.text.specs.Answers.{misread, formed}
+use Rattle.text.specs.declared.answer.Formed.{Formed}
+use Rattle.text.specs.declared.answer.Misread.{Misread}
 use Rattle.text.specs.declared.head.Role.TheVariants.{OwnForm}
 use Rattle.text.proofs.Laws.{inside}
 use Rattle.text_reader.proofs.lines.lines.Goals as goal
@@ -36,105 +36,61 @@ module _ (s : List ℕ) (N c : ℕ) (nodes : List ℕ) (k at n : ℕ) (w : List 
   abbrev next : ℕ → ℕ → ℕ → List ℕ → ReadOut
   next p m a v = lines_at (max_lines - (k + 1)) s N c (set nodes k a) (k + 1) p m v
 
-  none : max_lines ≤ k → ReadIs (Refused Nodes at) w rest
+  none : max_lines ≤ k → ReadIs (misread Nodes at) w rest
   unfolding lines_at
   none h = let e : max_lines - k ≡ 0 = omega arith in rw e (refl, refl)
 
   module _ (h : k < max_lines) (v : List ℕ) (ev : v ≡ here.words) where
-    turn : (r : Step) → r ≡ here.step → rest ≡ line_end next s N v r
+    turn : (r : Result Formed Misread) → r ≡ here.step → rest ≡ line_end next s N v r
     unfolding lines_at
     turn r er = let e : max_lines - k ≡ suc (max_lines - (k + 1)) = omega arith in rw (e, ← er, ← ev)
 
-    stops : (f : Fault) (p : ℕ) → Stop f p ≡ here.step → ReadIs (Refused f p) v rest
-    stops f p er = rw (turn (Stop f p) er) (refl, refl)
+    stops : (e : Misread) → Err e ≡ here.step → ReadIs (Err e) v rest
+    stops e er = rw (turn (Err e) er) (refl, refl)
 
-    module _ (p m a b : ℕ) (er : Made p m a ≡ here.step) (eb : b ≡ byte_at s p) where
-      unended : (b ≡ code "\n" → ⊥) → ReadIs (Refused Shape p) v rest
-      unended l = rw (turn (Made p m a) er, ← eb, ne_eqb b (code "\n") l) (refl, refl)
+    module _ (p m a b : ℕ) (er : formed p m a ≡ here.step) (eb : b ≡ byte_at s p) where
+      unended : (b ≡ code "\n" → ⊥) → ReadIs (misread Shape p) v rest
+      unended l = rw (turn (formed p m a) er, ← eb, ne_eqb b (code "\n") l) (refl, refl)
 
       module _ (l : b ≡ code "\n") (y : ℕ) (ey : y ≡ byte_at s (p + 1)) where
-        last : y ≡ end → ReadIs (Circuit N m) v rest
-        last i = rw (turn (Made p m a) er, ← eb, eq-eqb b (code "\n") l, ← ey, eq-eqb y end i) (refl, refl)
+        last : y ≡ end → ReadIs (Ok (record { variables = N; nodes = m })) v rest
+        last i = rw (turn (formed p m a) er, ← eb, eq-eqb b (code "\n") l, ← ey, eq-eqb y end i) (refl, refl)
 
         more : (y ≡ end → ⊥) → rest ≡ next (p + 1) m a v
-        more i = turn (Made p m a) er ∙ rw (← eb, eq-eqb b (code "\n") l, ← ey, ne_eqb y end i)
+        more i = turn (formed p m a) er ∙ rw (← eb, eq-eqb b (code "\n") l, ← ey, ne_eqb y end i)
 
-pub loop-k-init : goal.loop-k-init
-loop-k-init c =
-    let l : 0 ≤ max_lines = omega arith in
-    (l, c.requires, refl, refl, refl)
-
-pub form-requires : goal.form-requires
-form-requires c =
-    let i = c.loop-k.invariant in
-    let l : words_for c.room_of-room.result ≤ length c.loop-k.words = omega
-    (arith, i.2, c.room_of-room.ensures.2) in
-    let k : c.loop-k.k ≤ length c.loop-k.nodes = omega (arith, i.3) in
-    (i.1, record { enough = l; few = c.room_of-room.ensures.1; known = k })
-
-pub shape_of-words-in-Stop : goal.shape_of-words-in-Stop
-shape_of-words-in-Stop c =
-    c.form.auto.words ∙ c.loop-k.invariant.2
-
-pub returns-in-Stop : goal.returns-in-Stop
-returns-in-Stop c =
-    finish _ _ _ _ _ _ _ _ _ c.room_of-room.ensures.0 c.loop-k.invariant.4
-    (stops _ _ _ _ _ _ _ _ c.loop-k-test.true _ c.form.ensures.1 _ _
-    (sym c.in-Stop.is ∙ c.form.ensures.0))
-
-pub shape_of-words-then-byte_at-ne-NEWLINE : goal.shape_of-words-then-byte_at-ne-NEWLINE
-shape_of-words-then-byte_at-ne-NEWLINE c =
-    c.form.auto.words ∙ c.loop-k.invariant.2
+pub returns-in_err-past : goal.returns-in_err-past
+returns-in_err-past c =
+    let p = err_from_is_err_and c.from_residual.result c.from_residual.ensures.1 in
+    let h = c.in_err-past.ensures in
+    rw (p.1, p.2)
+    (finish _ _ _ _ _ _ _ _ _ c.room_of-room.ensures.0 c.loop-k.invariant.3 (stops _ _ _ _ _ _ _ _ c.loop-k-test.true _ h.1 _ h.0))
 
 pub returns-then-byte_at-ne-NEWLINE : goal.returns-then-byte_at-ne-NEWLINE
 returns-then-byte_at-ne-NEWLINE c =
-    finish _ _ _ _ _ _ _ _ _ c.room_of-room.ensures.0 c.loop-k.invariant.4
-    (unended _ _ _ _ _ _ _ _ c.loop-k-test.true _ c.form.ensures.1 _ _ _ _
-    (sym c.in-Made.is ∙ c.form.ensures.0)
-    c.byte_at.ensures c.if-byte_at-ne-NEWLINE.true)
-
-pub overflow_add-p : goal.overflow_add-p
-overflow_add-p c =
-    let n = subst (StepRuns c.args.s.now c.loop-k.at) c.in-Made.is c.form.ensures.2 in
-    omega (arith, n, c.well_formed)
-
-pub shape_of-words-then-byte_at-eq-END : goal.shape_of-words-then-byte_at-eq-END
-shape_of-words-then-byte_at-eq-END c =
-    c.form.auto.words ∙ c.loop-k.invariant.2
+    let h = c.in_ok-past.ensures in
+    finish _ _ _ _ _ _ _ _ _ c.room_of-room.ensures.0 c.loop-k.invariant.3
+    (unended _ _ _ _ _ _ _ _ c.loop-k-test.true _ h.1 _ _ _ _ h.0 c.byte_at.ensures c.if-byte_at-ne-NEWLINE.true)
 
 pub returns-then-byte_at-eq-END : goal.returns-then-byte_at-eq-END
 returns-then-byte_at-eq-END c =
-    finish _ _ _ _ _ _ _ _ _ c.room_of-room.ensures.0 c.loop-k.invariant.4
-    (last _ _ _ _ _ _ _ _ c.loop-k-test.true _ c.form.ensures.1 _ _ _ _
-    (sym c.in-Made.is ∙ c.form.ensures.0)
-    c.byte_at.ensures c.if-byte_at-ne-NEWLINE.false _ c.byte_at-in-Made.ensures c.if-byte_at-eq-END.true)
-
-pub overflow_add-at : goal.overflow_add-at
-overflow_add-at c =
-    let n = subst (StepRuns c.args.s.now c.loop-k.at) c.in-Made.is c.form.ensures.2 in
-    omega (arith, n, c.well_formed)
+    let h = c.in_ok-past.ensures in
+    finish _ _ _ _ _ _ _ _ _ c.room_of-room.ensures.0 c.loop-k.invariant.3
+    (last _ _ _ _ _ _ _ _ c.loop-k-test.true _ h.1 _ _ _ _ h.0 c.byte_at.ensures c.if-byte_at-ne-NEWLINE.false _
+    c.byte_at-in-loop-k.ensures c.if-byte_at-eq-END.true)
 
 pub loop-k-preserved : goal.loop-k-preserved
 loop-k-preserved c =
-    let q = c.in-Made.p in
-    let i = inside c.args.s.now q (omega (arith, sym c.byte_at.ensures)) in
-    let l : c.loop-k.k + 1 ≤ max_lines = omega arith in
-    let h : q + 1 ≤ length c.args.s.now = omega arith in (
-      l,
-      h,
-      c.form.auto.words ∙ c.loop-k.invariant.2,
-      length-set c.loop-k.nodes c.loop-k.k _
-          ∙ c.loop-k.invariant.3,
-      c.loop-k.invariant.4
-          ∙ more _ _ _ _ _ _ _ _ c.loop-k-test.true _ c.form.ensures.1 _ _ _ _
-          (sym c.in-Made.is ∙ c.form.ensures.0)
-          c.byte_at.ensures c.if-byte_at-ne-NEWLINE.false _ c.byte_at-in-Made.ensures c.if-byte_at-eq-END.false,
+    let h = c.in_ok-past.ensures in
+    let i = inside c.args.s.now c.in_ok-past.field-0.past (omega (arith, sym c.byte_at.ensures)) in (
+      omega arith,
+      c.form.auto.words ∙ c.loop-k.invariant.1,
+      length-set c.loop-k.known c.loop-k.k _ ∙ c.loop-k.invariant.2,
+      c.loop-k.invariant.3
+          ∙ more _ _ _ _ _ _ _ _ c.loop-k-test.true _ h.1 _ _ _ _ h.0 c.byte_at.ensures c.if-byte_at-ne-NEWLINE.false _
+          c.byte_at-in-loop-k.ensures c.if-byte_at-eq-END.false,
     )
-
-pub shape_of-words : goal.shape_of-words
-shape_of-words c =
-    c.loop-k.invariant.2
 
 pub returns : goal.returns
 returns c =
-    finish _ _ _ _ _ _ _ _ _ c.room_of-room.ensures.0 c.loop-k.invariant.4 (none _ _ _ _ _ _ _ _ c.loop-k-test.false)
+    finish _ _ _ _ _ _ _ _ _ c.room_of-room.ensures.0 c.loop-k.invariant.3 (none _ _ _ _ _ _ _ _ c.loop-k-test.false)

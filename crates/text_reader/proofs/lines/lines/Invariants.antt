@@ -8,9 +8,6 @@ use Rattle.text_reader.proofs.lines.lines.Given as goal
 
 abbrev pub invariant-loop-k : goal.invariant-loop-k
 invariant-loop-k l =
-    (l.k ≤ max_lines) × (l.at ≤ length l.s) × (length l.words ≡ length l.initial.words) × (length l.nodes ≡ max_lines)
+    (l.at ≤ length l.s) × (length l.words ≡ length l.initial.words) × (length l.known ≡ max_lines)
     × (lines_at max_lines l.s l.variables l.room (replicate max_lines 0) 0 l.start 0 l.initial.words
-    ≡ lines_at (max_lines - l.k) l.s l.variables l.room l.nodes l.k l.at l.n l.words)
-
-abbrev pub decreases-loop-k : goal.decreases-loop-k
-decreases-loop-k l = max_lines - l.k
+    ≡ lines_at (max_lines - l.k) l.s l.variables l.room l.known l.k l.at l.n l.words)

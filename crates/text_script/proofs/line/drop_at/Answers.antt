@@ -1,20 +1,12 @@
 -- `text_script::line::drop_at` meets its contract.
-use mathlib.Core.Path.{sym, subst, ◌∙◌}
-use native.Mathlib.Omega.{arith}
-use Rattle.text.specs.Places.{RangedRuns}
+use Rattle.std.proofs.lemmas.Result.{err_from_is_err_and}
 use Rattle.text_script.proofs.Reading.{drop-unfit, drop-inside}
 use Rattle.text_script.proofs.line.drop_at.Goals as goal
 
-pub ending-requires : goal.ending-requires
-ending-requires c =
-    let n = subst (RangedRuns _ _ _) c.in-Inside.is c.ranged.ensures.1 in
-    (omega (arith, n.1), omega arith)
+pub returns-in_err-variable : goal.returns-in_err-variable
+returns-in_err-variable c =
+    let p = err_from_is_err_and c.from_residual.result c.from_residual.ensures.1 in
+    rw (p.1, p.2) (drop-unfit _ _ _ _ c.in_err-variable.ensures.0)
 
-pub returns-in-Unfit : goal.returns-in-Unfit
-returns-in-Unfit c =
-    drop-unfit _ _ _ _ _ (sym c.in-Unfit.is ∙ c.ranged.ensures.0) c.unfit.ensures
-
-pub returns-in-Inside : goal.returns-in-Inside
-returns-in-Inside c =
-    let n = subst (RangedRuns _ _ _) c.in-Inside.is c.ranged.ensures.1 in
-    drop-inside _ _ _ c.ending.result _ _ (sym c.in-Inside.is ∙ c.ranged.ensures.0) n c.ending.ensures
+pub returns : goal.returns
+returns c = let h = c.in_ok-variable.ensures in drop-inside _ _ _ c.ending.result _ _ h.0 h.1 c.ending.ensures

@@ -1,25 +1,12 @@
 -- `text_script::line::set_at` meets its contract.
-use mathlib.Core.Path.{sym, subst, ◌∙◌}
-use native.Mathlib.Omega.{arith}
-use Rattle.text.specs.Places.{RangedRuns}
+use Rattle.std.proofs.lemmas.Result.{err_from_is_err_and}
 use Rattle.text_script.proofs.Reading.{set-unfit, set-inside}
 use Rattle.text_script.proofs.line.set_at.Goals as goal
 
-pub overflow_add-p : goal.overflow_add-p
-overflow_add-p c =
-    let n = subst (RangedRuns _ _ _) c.in-Inside.is c.ranged.ensures.1 in
-    omega (arith, n.1)
+pub returns-in_err-variable : goal.returns-in_err-variable
+returns-in_err-variable c =
+    let p = err_from_is_err_and c.from_residual.result c.from_residual.ensures.1 in
+    rw (p.1, p.2) (set-unfit _ _ _ _ c.in_err-variable.ensures.0)
 
-pub sign_at-requires : goal.sign_at-requires
-sign_at-requires c =
-    let n = subst (RangedRuns _ _ _) c.in-Inside.is c.ranged.ensures.1 in
-    omega (arith, n.1)
-
-pub returns-in-Unfit : goal.returns-in-Unfit
-returns-in-Unfit c =
-    set-unfit _ _ _ _ _ (sym c.in-Unfit.is ∙ c.ranged.ensures.0) c.unfit.ensures
-
-pub returns-in-Inside : goal.returns-in-Inside
-returns-in-Inside c =
-    let n = subst (RangedRuns _ _ _) c.in-Inside.is c.ranged.ensures.1 in
-    set-inside _ _ _ c.sign_at.result _ _ (sym c.in-Inside.is ∙ c.ranged.ensures.0) n c.sign_at.ensures
+pub returns : goal.returns
+returns c = let h = c.in_ok-variable.ensures in set-inside _ _ _ c.sign_at.result _ _ h.0 h.1 c.sign_at.ensures

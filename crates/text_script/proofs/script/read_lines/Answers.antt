@@ -1,21 +1,22 @@
 use Prim.Native.Nat.{ℕ, ◌+◌, ◌<◌, ◌≤◌}
-use mathlib.Core.Path.{◌≡◌, refl, sym, ap, subst, ◌∙◌}
-use mathlib.Core.List.{List, [], ◌∷◌}
+use mathlib.Core.Path.{◌≡◌, refl, sym, ◌∙◌}
+use mathlib.Core.Logic.{◌⊎◌, inl, inr}
+use mathlib.Core.List.{List, [], ◌∷◌, ◌++◌}
 use native.Mathlib.Omega.{arith}
 use lib.ListN.{length, length-append}
 use borrow.Author.Rules.{rules}
+use Rattle.std.specs.Prelude.{Result, Ok, Err}
+use Rattle.std.proofs.lemmas.Result.{err_from_is_err_and}
 use Rattle.steps.specs.Steps.{columns, put}
 use Rattle.steps.specs.declared.Columns.{Columns}
 use Rattle.steps.specs.declared.Step.{Step}
 use Rattle.steps.proofs.ColumnLaws.{columns-none, columns-with}
-use Rattle.table.specs.Outcome.{answered}
+use Rattle.table.specs.Outcome.{refused}
 use Rattle.text.specs.Read.{byte_at}
 use Rattle.text.proofs.Laws.{inside}
-use Rattle.text_script.specs.Answers.{script_outcome}
-use Rattle.text_script.specs.Lines.{line_then, Reads, LineRuns}
+use Rattle.text_script.specs.Lines.{line_then, Reads}
 use Rattle.text_script.specs.Script.{with, line, opened}
-use Rattle.text_script.specs.declared.line.LineReading.{LineReading}
-use Rattle.text_script.specs.declared.script.ScriptReading.{ScriptReading}
+use Rattle.text_script.specs.declared.answer.ScriptFault.{ScriptFault}
 use Rattle.text_script.proofs.Reading.{on, end_is, full_is, closed_is, open_is, told-steps, told-refused}
 use Rattle.text_script.proofs.script.read_lines.Invariants.{Past}
 use Rattle.text_script.proofs.script.read_lines.Goals as goal
@@ -24,19 +25,24 @@ starts : (s : List ℕ) (N room : ℕ) (cs : Columns) → cs ≡ columns [] → 
 starts s N room cs e = record { held = e; counted = refl; few = omega arith; inside = omega arith; left = refl }
 
 -- one line more
-goes_on : (s : List ℕ) (N room : ℕ) (cs ds : Columns) (count at v a p : ℕ) (es : List Step) → Past s N room cs count at es → count < room
-    → line_then s N room es (LineReading.Step v a p) ≡ on s N room (line es) at → p ≤ length s
-    → ds ≡ put cs count (record { variable = v; act = a }) → Past s N room ds (count + 1) p (with es v a)
-goes_on s N room cs ds count at v a p es h l e i d =
-    let n : length (with es v a) ≡ length es + 1 = length-append es (record { variable = v; act = a } ∷ []) in
+goes_on : (s : List ℕ) (N room : ℕ) (cs ds : Columns) (count at : ℕ) (t : Step) (p : ℕ) (es : List Step) → Past s N room cs count at es
+    → count < room → line_then s N room es (Ok (t, p)) ≡ on s N room (line es) at → p ≤ length s → ds ≡ put cs count t
+    → Past s N room ds (count + 1) p (with es t.variable t.act)
+goes_on s N room cs ds count at t p es h l e i d =
+    let n : length (es ++ (t ∷ [])) ≡ length es + 1 = length-append es (t ∷ []) in
     record {
-      held =
-          d ∙ (λ j. put (h.held j) (h.counted j) (record { variable = v; act = a })) ∙ columns-with es (record { variable = v; act = a });
+      held = d ∙ (λ j. put (h.held j) (h.counted j) t) ∙ columns-with es t;
       counted = omega (arith, h.counted);
       few = omega (arith, h.counted);
       inside = i;
       left = h.left ∙ sym e;
     }
+
+-- there is no room for a line, or none begins
+stuck_is : (s : List ℕ) (N room count at c : ℕ) (es : List Step) → count ≡ length es → c ≡ byte_at s at → (c ≡ 256 → ⊥)
+    → (room ≤ count) ⊎ ((count < room) × (c ≡ 40 → ⊥)) → refused 54 at ≡ on s N room (line es) at
+stuck_is s N room count at c es n e d (inl l) = full_is s N room es at (λ b. d (e ∙ b)) (omega (arith, n, l))
+stuck_is s N room count at c es n e d (inr (l, o)) = closed_is s N room es at (λ b. d (e ∙ b)) (λ b. o (e ∙ b))
 
 pub loop-columns-init : goal.loop-columns-init
 loop-columns-init c = ([], starts _ _ _ _ (c.no_columns-columns.ensures ∙ columns-none))
@@ -46,38 +52,22 @@ more : (s : List ℕ) (at c : ℕ) → c ≡ byte_at s at → c ≡ 40 → at < 
 more s at c e b = inside s at (omega (arith, sym e ∙ b))
 
 -- what the line is read as
-follows : (s : List ℕ) (N room at c : ℕ) (es : List Step) (r x : LineReading) → r ≡ x → Reads s N opened (at + 1) r
-    → length es < room → c ≡ byte_at s at → c ≡ 40 → line_then s N room es x ≡ on s N room (line es) at
-follows s N room at c es r x e h l d b =
-    ap (line_then s N room es) (sym e) ∙ h room es ∙ open_is s N room es at l (sym d ∙ b)
-
--- where the next line may begin
-runs : (s : List ℕ) (at v a p : ℕ) (r : LineReading) → r ≡ LineReading.Step v a p → LineRuns s at r → (at ≤ p) × (p ≤ length s)
-runs s at v a p r e h = subst (LineRuns s at) e h
+follows : (s : List ℕ) (N room at c : ℕ) (es : List Step) (r : Result (Step × ℕ) ScriptFault) → Reads s N opened (at + 1) r
+    → length es < room → c ≡ byte_at s at → c ≡ 40 → line_then s N room es r ≡ on s N room (line es) at
+follows s N room at c es r h l d b = h room es ∙ open_is s N room es at l (sym d ∙ b)
 
 pub returns-then-c-eq-END : goal.returns-then-c-eq-END
 returns-then-c-eq-END c =
     let p = c.loop-columns.invariant.1 in
-    told-steps _ (record { columns = c.loop-columns.columns; count = c.loop-columns.count; reading = ScriptReading.Steps c.loop-columns.count }) _
-    c.loop-columns.invariant.0
-    (end_is _ _ _ _ _ (sym c.byte_at-c.ensures ∙ c.if-c-eq-END.true) ∙ sym p.left)
-    (ap answered p.counted, p.counted, p.held, p.few)
+    told-steps _ _ _ c.loop-columns.invariant.0 (end_is _ _ _ _ _ (sym c.byte_at-c.ensures ∙ c.if-c-eq-END.true) ∙ sym p.left)
+    (λ i. Ok (record { columns = p.held i; count = p.counted i })) p.few
 
 pub returns-then-room-count : goal.returns-then-room-count
 returns-then-room-count c =
     let p = c.loop-columns.invariant.1 in
-    told-refused _ _ _ 54 _
-    (full_is _ _ _ c.loop-columns.invariant.0 _ (λ e. c.if-c-eq-END.false (c.byte_at-c.ensures ∙ e))
-    (omega (arith, p.counted, c.if-room-count.true)) ∙ sym p.left)
-    (ap script_outcome c.refuse.ensures.1) c.refuse.ensures.0
-
-pub returns-then-c-ne-OPEN : goal.returns-then-c-ne-OPEN
-returns-then-c-ne-OPEN c =
-    let b = c.byte_at-c.ensures in
-    told-refused _ _ _ 54 _
-    (closed_is _ _ _ c.loop-columns.invariant.0 _ (λ e. c.if-c-eq-END.false (b ∙ e))
-    (λ e. c.if-c-ne-OPEN.true (b ∙ e)) ∙ sym c.loop-columns.invariant.1.left)
-    (ap script_outcome c.refuse-then-c-ne-OPEN.ensures.1) c.refuse-then-c-ne-OPEN.ensures.0
+    told-refused _ _ _
+    (stuck_is _ _ _ _ _ _ c.loop-columns.invariant.0 p.counted c.byte_at-c.ensures c.if-c-eq-END.false c.then-room-count.either
+    ∙ sym p.left)
 
 pub overflow_add-at : goal.overflow_add-at
 overflow_add-at c = let l = more c.args.s.now c.loop-columns.at c.byte_at-c.result c.byte_at-c.ensures c.if-c-ne-OPEN.false in search rules
@@ -85,40 +75,32 @@ overflow_add-at c = let l = more c.args.s.now c.loop-columns.at c.byte_at-c.resu
 pub line_at-requires : goal.line_at-requires
 line_at-requires c = omega (arith, more c.args.s.now c.loop-columns.at c.byte_at-c.result c.byte_at-c.ensures c.if-c-ne-OPEN.false)
 
-pub returns-in-Shape : goal.returns-in-Shape
-returns-in-Shape c =
+pub returns-in_err-step : goal.returns-in_err-step
+returns-in_err-step c =
+    let e = err_from_is_err_and c.from_residual.result c.from_residual.ensures.1 in
     let p = c.loop-columns.invariant.1 in
-    told-refused _ _ _ 54 _
-    (follows _ _ _ _ _ c.loop-columns.invariant.0 _ _ c.in-Shape.is c.line_at.ensures.0
-    (omega (arith, p.counted, c.if-room-count.false)) c.byte_at-c.ensures c.if-c-ne-OPEN.false
-    ∙ sym p.left)
-    (ap script_outcome c.refuse-in-Shape.ensures.1) c.refuse-in-Shape.ensures.0
-
-pub returns-in-Variable : goal.returns-in-Variable
-returns-in-Variable c =
-    let p = c.loop-columns.invariant.1 in
-    told-refused _ _ _ 55 _
-    (follows _ _ _ _ _ c.loop-columns.invariant.0 _ _ c.in-Variable.is c.line_at.ensures.0
-    (omega (arith, p.counted, c.if-room-count.false)) c.byte_at-c.ensures c.if-c-ne-OPEN.false
-    ∙ sym p.left)
-    (ap script_outcome c.refuse-in-Variable.ensures.1) c.refuse-in-Variable.ensures.0
+    rw (e.1, e.2)
+    (told-refused _ _ _
+    (follows _ _ _ _ _ c.loop-columns.invariant.0 (Err c.in_err-step.field-0.0) c.in_err-step.ensures.0
+    (omega (arith, p.counted, c.if-room-count.false))
+    c.byte_at-c.ensures c.if-c-ne-OPEN.false ∙ sym p.left))
 
 pub overflow_add-count : goal.overflow_add-count
 overflow_add-count c = omega (arith, c.if-room-count.false, c.requires)
 
 pub loop-columns-smaller : goal.loop-columns-smaller
 loop-columns-smaller c =
-    let n = runs _ _ _ _ _ _ c.in-Step.is c.line_at.ensures.1 in
+    let n = c.in_ok-step.ensures.1 in
     omega (arith, n.0, n.1, more c.args.s.now c.loop-columns.at c.byte_at-c.result c.byte_at-c.ensures c.if-c-ne-OPEN.false)
 
 pub loop-columns-preserved : goal.loop-columns-preserved
 loop-columns-preserved c =
     let es = c.loop-columns.invariant.0 in
     let p = c.loop-columns.invariant.1 in
-    let n = runs _ _ _ _ _ _ c.in-Step.is c.line_at.ensures.1 in (
+    let h = c.in_ok-step.ensures in (
       with es _ _,
-      goes_on _ _ _ _ _ _ _ _ _ _ es p c.if-room-count.false
-          (follows _ _ _ _ _ es _ _ c.in-Step.is c.line_at.ensures.0
+      goes_on _ _ _ _ _ _ _ _ _ es p c.if-room-count.false
+          (follows _ _ _ _ _ es (Ok (c.in_ok-step.step, c.in_ok-step.p)) h.0
           (omega (arith, p.counted, c.if-room-count.false)) c.byte_at-c.ensures c.if-c-ne-OPEN.false)
-          n.1 c.with_step-columns.ensures,
+          h.1.1 c.with_step-columns.ensures,
     )

@@ -1,10 +1,10 @@
-use Prim.Native.Nat.{ℕ, ◌+◌, ◌<◌, ◌≤◌}
+use Prim.Native.Nat.{ℕ, ◌+◌, ◌<◌}
 use mathlib.Core.List.{List, [], ◌∷◌}
 use mathlib.Core.Path.{sym, ap, ◌∙◌}
 use native.Mathlib.Numerals.{add-one}
 use native.Mathlib.Omega.{arith}
 use lib.ListN.{length, get_or, take}
-use lib.Seq.{take-suc, take_all, length-sets}
+use lib.Seq.{take-suc, take_all}
 use Rattle.text_writer.specs.Sink.{Wrote}
 use Rattle.text_writer.proofs.Sinks.{after, nothing, same}
 use Rattle.text_writer.proofs.sink.put_bytes.Goals as goal
@@ -13,24 +13,20 @@ one_more : {d e f : List ℕ} {at p q : ℕ} (w : List ℕ) (i : ℕ) → i < le
     → Wrote e p f q (get_or w i 0 ∷ []) → Wrote d at f q (take (i + 1) w)
 one_more w i h a b = same (sym (take-suc w i 0 h) ∙ ap (λ (n : ℕ). take n w) (sym (add-one i))) (after a b)
 
-pub loop-i-init : goal.loop-i-init
-loop-i-init c =
-    (omega arith, omega arith, nothing)
+pub loop-b-init : goal.loop-b-init
+loop-b-init c = (omega arith, nothing)
 
-pub loop-i-preserved : goal.loop-i-preserved
-loop-i-preserved c =
-    let l : c.loop-i.i + 1 ≤ length c.args.w.now = omega arith in
-    let m : c.put-p.result ≤ c.args.at + (c.loop-i.i + 1) = omega
-    (arith, c.put-p.ensures.1, c.loop-i.invariant.1) in
-    (l, m, one_more _ _ c.loop-i-test.true c.loop-i.invariant.2 c.put-p.ensures.0)
+pub put-p-requires : goal.put-p-requires
+put-p-requires c = omega (arith, c.loop-b.invariant.0, c.requires)
 
-pub shape_of-d : goal.shape_of-d
-shape_of-d c =
-    ap length c.loop-i.invariant.2.sink
-    ∙ length-sets c.args.d.now c.args.at (take c.loop-i.i c.args.w.now)
+pub loop-b-preserved : goal.loop-b-preserved
+loop-b-preserved c = (
+  omega (arith, c.put-p.ensures.1, c.loop-b.invariant.0),
+  one_more _ _ c.loop-b-test.true c.loop-b.invariant.1 c.put-p.ensures.0,
+)
 
 pub returns : goal.returns
 returns c = (
-  same (take_all c.loop-i.i c.args.w.now c.loop-i-test.false) c.loop-i.invariant.2,
-  omega (arith, c.loop-i.invariant.1, c.requires),
+  same (take_all c.loop-b.b-index c.args.w.now c.loop-b-test.false) c.loop-b.invariant.1,
+  omega (arith, c.loop-b.invariant.0, c.loop-b.auto.b-index-end, c.requires),
 )

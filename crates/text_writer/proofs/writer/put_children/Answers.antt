@@ -1,5 +1,5 @@
-use Prim.Native.Nat.{ℕ, ◌+◌, ◌*◌, ◌<◌, ◌≤◌}
-use mathlib.Core.Path.{◌≡◌, refl, sym, ap, ◌∙◌}
+use Prim.Native.Nat.{ℕ, ◌+◌, ◌<◌}
+use mathlib.Core.Path.{◌≡◌, sym, ap, ◌∙◌}
 use mathlib.Core.List.{List, [], ◌∷◌, ◌++◌}
 use native.Mathlib.Numerals.{add-one}
 use native.Mathlib.Omega.{arith}
@@ -24,7 +24,7 @@ one_more cs k h a b =
 
 pub loop-k-init : goal.loop-k-init
 unfolding print_form
-loop-k-init c = (omega arith, omega arith, refl, nothing)
+loop-k-init c = (omega arith, nothing)
 
 pub bounds-nodes-k : goal.bounds-nodes-k
 bounds-nodes-k c = let few = c.requires.1 in omega arith
@@ -33,18 +33,14 @@ pub loop-k-preserved : goal.loop-k-preserved
 loop-k-preserved c = let cs = c.args.children in
     let long : length cs.nodes ≡ max_children = search rules in
     let few = c.requires.1 in
-    let less : c.loop-k.k < length cs.nodes = omega arith in
-    let m : c.put_child-p.result ≤ c.args.at + 36 * (c.loop-k.k + 1) = omega
-    (arith, c.put_child-p.ensures.1, c.loop-k.invariant.1) in (
-      omega arith,
-      m,
-      c.put_child-p.auto.d ∙ c.loop-k.invariant.2,
-      one_more _ _ less c.loop-k.invariant.3 c.put_child-p.ensures.0,
+    let less : c.loop-k.k < length cs.nodes = omega arith in (
+      omega (arith, c.put_child-p.ensures.1, c.loop-k.invariant.0),
+      one_more _ _ less c.loop-k.invariant.1 c.put_child-p.ensures.0,
     )
 
 pub returns : goal.returns
-returns c = let e : c.loop-k.k ≡ c.args.children.count = omega arith in
+returns c = let e : c.loop-k.k ≡ c.args.children.count = omega (arith, c.loop-k-test.false, c.loop-k.auto.k-end) in
     let few = c.requires.1 in (
-      same (ap (λ (k : ℕ). print_forms (line_forms (take k c.args.children.nodes))) e) c.loop-k.invariant.3,
-      omega (arith, c.loop-k.invariant.1),
+      same (ap (λ (k : ℕ). print_forms (line_forms (take k c.args.children.nodes))) e) c.loop-k.invariant.1,
+      omega (arith, c.loop-k.invariant.0),
     )

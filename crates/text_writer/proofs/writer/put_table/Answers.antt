@@ -1,5 +1,5 @@
 use Prim.Native.Nat.{ℕ, ◌+◌, ◌<◌, ◌≤◌}
-use mathlib.Core.Path.{◌≡◌, refl, sym, ap, subst, ◌∙◌}
+use mathlib.Core.Path.{◌≡◌, refl, sym, ap, subst}
 use mathlib.Core.List.{List, ◌++◌, append_assoc}
 use native.Mathlib.Omega.{arith}
 use Rattle.masks.specs.Numbers.{below}
@@ -31,29 +31,27 @@ few n w i r (N, s) l is =
 
 pub loop-i-init : goal.loop-i-init
 unfolding below print_lines
-loop-i-init c = (omega arith, omega (arith, c.put_numbered-h.ensures.1, c.put_bytes-g.ensures.1), refl, nothing)
+loop-i-init c = (omega (arith, c.put_numbered-h.ensures.1, c.put_bytes-p.ensures.1), nothing)
 
-pub decode_at-node-requires : goal.decode_at-node-requires
-decode_at-node-requires c = let s = c.requires.1 in (omega arith, omega arith)
+pub decode_at-requires : goal.decode_at-requires
+decode_at-requires c = let s = c.requires.1 in (omega arith, omega arith)
 
 pub put_line-p-requires : goal.put_line-p-requires
 put_line-p-requires c =
     let s = c.requires.1 in
-    (omega (arith, c.loop-i.invariant.1), few _ _ _ _ c.requires c.loop-i-test.true c.decode_at-node.ensures)
+    (omega (arith, c.loop-i.invariant.0), few _ _ _ _ c.requires c.loop-i-test.true c.decode_at.ensures)
 
 pub loop-i-preserved : goal.loop-i-preserved
 loop-i-preserved c = (
-  omega arith,
-  omega (arith, c.put_line-p.ensures.1, c.loop-i.invariant.1),
-  c.put_line-p.auto.d ∙ c.loop-i.invariant.2,
-  one_more _ _ _ c.decode_at-node.ensures c.loop-i.invariant.3 c.put_line-p.ensures.0,
+  omega (arith, c.put_line-p.ensures.1, c.loop-i.invariant.0),
+  one_more _ _ _ c.decode_at.ensures c.loop-i.invariant.1 c.put_line-p.ensures.0,
 )
 
 pub returns : goal.returns
 unfolding table_text print
 returns c =
     let x = c.args in
-    let e : c.loop-i.i ≡ x.nodes = omega arith in
+    let e : c.loop-i.i ≡ x.nodes = omega (arith, c.loop-i-test.false, c.loop-i.auto.i-end) in
     after (same (append_assoc (ascii "(circuit " ++ decimal x.variables) (ascii ")") (ascii "\n"))
-    (after c.put_numbered-h.ensures.0 c.put_bytes-g.ensures.0))
-    (same (ap (node_lines x.words.now) e) c.loop-i.invariant.3)
+    (after c.put_numbered-h.ensures.0 c.put_bytes-p.ensures.0))
+    (same (ap (node_lines x.words.now) e) c.loop-i.invariant.1)

@@ -1,14 +1,9 @@
 -- `text_writer::writer::put_table` meets its contract. The invariant: after the header the lines of the nodes below i are written.
-use Prim.Native.Nat.{◌+◌, ◌-◌, ◌*◌, ◌≤◌}
-use mathlib.Core.Path.{◌≡◌}
-use lib.ListN.{length}
+use Prim.Native.Nat.{◌+◌, ◌*◌, ◌≤◌}
 use Rattle.text_writer.specs.Sink.{Wrote}
 use Rattle.text_writer.proofs.Printing.{node_lines}
 use Rattle.text_writer.proofs.writer.put_table.Given as goal
 
 abbrev pub invariant-loop-i : goal.invariant-loop-i
 invariant-loop-i l =
-    (l.i ≤ l.nodes) × (l.p ≤ 64 + 336 * l.i) × (length l.d ≡ length l.initial.d) × Wrote l.initial.d l.initial.p l.d l.p (node_lines l.words l.i)
-
-abbrev pub decreases-loop-i : goal.decreases-loop-i
-decreases-loop-i l = l.nodes - l.i
+    (l.p ≤ 64 + 336 * l.i) × Wrote l.initial.d l.initial.p l.d l.p (node_lines l.words l.i)

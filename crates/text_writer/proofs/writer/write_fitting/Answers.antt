@@ -10,14 +10,15 @@ use borrow.Author.Tests.{lt-ltb, le-ltb}
 use Rattle.table.specs.Outcome.{answered}
 use Rattle.text.specs.Write.{table_text, write_text}
 use Rattle.text_writer.specs.Sink.{WriteIs, Wrote}
-use Rattle.text_writer.specs.declared.writer.Written.TheVariants.{Done, Sink}
+use Rattle.std.specs.Prelude.{Ok, Err}
+use Rattle.text_writer.specs.declared.fault.WriteFault.TheVariants.{Sink}
 use Rattle.text_writer.proofs.writer.write_fitting.Goals as goal
 
 module _ (text sink : List ℕ) (m : ℕ) (e : m ≡ length text) where
-  short : length sink < m → WriteIs (Sink m) sink (write_text text sink)
+  short : length sink < m → WriteIs (Err (Sink m)) sink (write_text text sink)
   short k = rw (← e, lt-ltb (length sink) m k) (refl, refl)
 
-  done : m ≤ length sink → (v : List ℕ) (p : ℕ) → Wrote sink 0 v p text → WriteIs (Done p) v (write_text text sink)
+  done : m ≤ length sink → (v : List ℕ) (p : ℕ) → Wrote sink 0 v p text → WriteIs (Ok p) v (write_text text sink)
   done k v p x =
       let q : p ≡ length text = x.place ∙ zero-add (length text) in
       let f : length text ≤ length sink = omega arith in

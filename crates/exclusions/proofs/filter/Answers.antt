@@ -11,7 +11,7 @@ use Rattle.lists.proofs.Parts.{drop-terms, drop-end}
 use Rattle.insertion.specs.Filled.{by_sign}
 use Rattle.exclusions.specs.Exclusions.{respects, Exclusions}
 use Rattle.exclusions.specs.Partners.{Folded}
-use Rattle.exclusions.proofs.Filtering.{filtering-start, filtering-end, filtering-skip, filtering-keep}
+use Rattle.exclusions.proofs.Filtering.{filtering-end, filtering-skip, filtering-keep}
 use Rattle.exclusions.proofs.filter.Goals as goal
 use Rattle.exclusions.proofs.filter.Goals.{then-not-violates, else-not-violates}
 use Rattle.exclusions.proofs.filter.Goals.{Start, After-violates}
@@ -24,18 +24,6 @@ zeros s false = s.requires.positives_value.1
 
 level : (s : Start) → length s.args.negatives.now ≡ length s.args.positives.now
 level s = ap length (zeros s false) ∙ length-replicate (length s.args.positives.now) 0
-
-pub loop-k-init : goal.loop-k-init
-loop-k-init c =
-    let x = c.args in (
-      omega arith,
-      λ e f.
-          filtering-start e (terms_of x.lp.now x.ln.now) (length x.positives.now)
-          (by_sign x.positives.now x.negatives.now) (zeros (goal.at.loop-k-init c).Start),
-    )
-
-pub bounds-negatives-count : goal.bounds-negatives-count
-bounds-negatives-count c = omega (arith, level (goal.at.bounds-negatives-count c).Start)
 
 -- the term of a turn, which is the first of what is left
 module _ (c : After-violates) where

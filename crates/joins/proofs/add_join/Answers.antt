@@ -1,8 +1,7 @@
 -- `joins::add_join` meets its contract.
-use Prim.Native.Nat.{ℕ}
 use mathlib.Core.Path.{sym, subst, ◌∙◌}
-use mathlib.Core.Bool.{Bool, true, false}
-use mathlib.Core.List.{List, [], ◌∷◌}
+use mathlib.Core.Bool.{true}
+use mathlib.Core.List.{List}
 use Rattle.std.specs.Prelude.{Some}
 use Rattle.terms.specs.declared.Term.{Term}
 use Rattle.terms.proofs.Built.{with-one}
@@ -18,12 +17,3 @@ returns-then-conflict c =
     (Some x.count))
     (sym (with-one x.t x.u true (sym c.conflict.ensures ∙ c.if-conflict.true)))
     (filled_none (by_sign x.positives.now x.negatives.now) (even x.positives.now x.negatives.now c.requires.1) x.count c.requires.0)
-
-pub returns : goal.returns
-returns c =
-    let x = c.args in
-    let s' : Bool → List ℕ = by_sign c.insert.new.positives c.insert.new.negatives in
-    subst (λ (l : List Term). Added l (by_sign x.positives.now x.negatives.now) x.count s' c.insert.result)
-    (sym (with-one x.t x.u false (sym c.conflict.ensures ∙ c.if-conflict.false)))
-    (subst (λ (t : Term). Added (t ∷ []) (by_sign x.positives.now x.negatives.now) x.count s' c.insert.result) c.join.ensures
-    c.insert.ensures)

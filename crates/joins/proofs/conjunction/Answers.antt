@@ -1,6 +1,6 @@
-use Prim.Native.Nat.{ℕ, zero-le}
-use mathlib.Core.Path.{◌≡◌, sym, subst, ◌∙◌}
-use mathlib.Core.Bool.{Bool, true, false}
+use Prim.Native.Nat.{ℕ}
+use mathlib.Core.Path.{◌≡◌, subst}
+use mathlib.Core.Bool.{Bool}
 use mathlib.Core.List.{List}
 use native.Mathlib.Omega.{arith}
 use lib.ListN.{length}
@@ -10,7 +10,7 @@ use Rattle.terms.specs.declared.Term.{Term}
 use Rattle.insertion.specs.Filled.{by_sign}
 use Rattle.insertion.proofs.Parts.{Even, even}
 use Rattle.joins.specs.Added.{Added}
-use Rattle.joins.proofs.Turns.{all_made, turn-start, turn-length, turn-fits, turn_end, turn-full, turn-next, joining_all, Steps}
+use Rattle.joins.proofs.Turns.{all_made, turn-length, turn_end, turn-full, turn-next, joining_all, Steps}
 use Rattle.joins.proofs.conjunction.Goals as goal
 use Rattle.joins.proofs.conjunction.Goals.{At-loop-k}
 
@@ -34,24 +34,6 @@ module _ (c : At-loop-k) where
   sizes : (b : Bool) → length (now b) ≡ length (first b)
   sizes =
       turn-length steps c.args.bp.now c.args.bn.now c.requires.an_len.1 whole first now evens c.loop-k.count c.loop-k.k c.loop-k.invariant
-
-pub loop-k-init : goal.loop-k-init
-loop-k-init c =
-    let x = c.args in
-    turn-start (joining_all (terms_of x.ap.now x.an.now)) x.bp.now x.bn.now (by_sign x.positives.now x.negatives.now)
-    (even x.positives.now x.negatives.now c.requires.negatives_len) 0 zero-le tt
-
-pub join_each-requires : goal.join_each-requires
-join_each-requires c =
-    let l = (goal.at.join_each-requires c).At-loop-k in record {
-      start_in_bounds = (
-        turn-fits (steps l) c.args.bp.now c.args.bn.now c.requires.an_len.1 (whole l) (first l) (now l) (evens l) c.loop-k.count
-            c.loop-k.k c.loop-k.invariant,
-        sizes l false ∙ evens l false ∙ sym (sizes l true),
-        c.loop-k.invariant.rising,
-      );
-      ln_len = c.requires.an_len.0;
-    }
 
 pub loop-k-preserved : goal.loop-k-preserved
 loop-k-preserved c =

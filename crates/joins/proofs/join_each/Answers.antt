@@ -1,6 +1,6 @@
 use Prim.Native.Nat.{ℕ}
-use mathlib.Core.Path.{◌≡◌, sym, subst, ◌∙◌}
-use mathlib.Core.Bool.{Bool, true, false}
+use mathlib.Core.Path.{◌≡◌, subst}
+use mathlib.Core.Bool.{Bool}
 use mathlib.Core.List.{List}
 use native.Mathlib.Omega.{arith}
 use lib.ListN.{length}
@@ -9,7 +9,7 @@ use Rattle.terms.specs.declared.Term.{Term}
 use Rattle.insertion.specs.Filled.{by_sign}
 use Rattle.insertion.proofs.Parts.{Even, even}
 use Rattle.joins.specs.Added.{Added}
-use Rattle.joins.proofs.Turns.{all_made, turn-start, turn-length, turn-fits, turn_end, turn-full, turn-next, joining_one, Steps}
+use Rattle.joins.proofs.Turns.{all_made, turn-start, turn-length, turn_end, turn-full, turn-next, joining_one, Steps}
 use Rattle.joins.proofs.join_each.Goals as goal
 use Rattle.joins.proofs.join_each.Goals.{At-loop-k}
 
@@ -39,15 +39,6 @@ loop-k-init c =
     let x = c.args in
     turn-start (joining_one x.t) x.lp.now x.ln.now (by_sign x.positives.now x.negatives.now)
     (even x.positives.now x.negatives.now c.requires.start_in_bounds.1) x.start c.requires.start_in_bounds.0 c.requires.start_in_bounds.2
-
-pub add_join-requires : goal.add_join-requires
-add_join-requires c =
-    let l = (goal.at.add_join-requires c).At-loop-k in (
-      turn-fits (steps l) c.args.lp.now c.args.ln.now c.requires.ln_len (whole l) (first l) (now l) (evens l) c.loop-k.count
-          c.loop-k.k c.loop-k.invariant,
-      sizes l false ∙ evens l false ∙ sym (sizes l true),
-      c.loop-k.invariant.rising,
-    )
 
 pub loop-k-preserved : goal.loop-k-preserved
 loop-k-preserved c =

@@ -1,14 +1,6 @@
 -- `subsumption::find_inside` meets its contract.
-use mathlib.Core.Path.{sym, ap, ◌∙◌}
-use Rattle.terms.specs.Term.{inside}
-use Rattle.terms.specs.declared.Term.{Term}
 use Rattle.subsumption.proofs.Searched.{found-itself, found_before}
 use Rattle.subsumption.proofs.find_inside.Goals as goal
-
-pub returns-then-inside : goal.returns-then-inside
-returns-then-inside c =
-    let x = c.args in
-    (c.if-guess-positives.true, sym (ap (λ (u : Term). inside u x.t) c.term_at.ensures) ∙ sym c.inside.ensures ∙ c.if-inside.true)
 
 pub returns-in-Ok : goal.returns-in-Ok
 returns-in-Ok c =

@@ -15,7 +15,7 @@ use lists::list::TermList;
 use terms::Term;
 
 // The place of no kept term: what hints are before they are set.
-pub const NO_PLACE: u16 = 4096;
+pub const NO_PLACE: u16 = MAX_CAPACITY as u16;
 
 // How many terms stand in one word, a bit each.
 pub const WORD_BITS: usize = 64;

@@ -61,10 +61,3 @@ loop-i-preserved c =
       subst (λ (m : ℕ). m < 2 ^ masks t) (sym c.with_bit-heads.ensures)
           (put-lt (masks t) l.heads (first_at (pairs t) l.i) true (first_fits t) l.invariant.1),
     )
-
-pub returns : goal.returns
-returns c =
-    let l = c.loop-i in
-    let x = c.args in
-    let e : l.i ≡ length x.firsts.now = omega arith in
-    (subst (λ (n : ℕ). Folded (exclusions x.firsts.now x.seconds.now) n l.partners l.heads) e l.invariant.0, l.invariant.1)

@@ -1,10 +1,35 @@
 // The terms of every node put into the order by weights.
-ghost use Rattle.std.specs.Prelude.{◌≤◌, length};
+ghost use Rattle.std.specs.Prelude.{◌≡◌, ◌≤◌, length};
+ghost use Rattle.weighing.specs.Sums.{sum_count};
+ghost use Rattle.arranging.specs.Arranged.{Light, Arrangeable, Arranged};
 ghost use Rattle.lists.specs.List.{by_sign};
+ghost use Rattle.lists.specs.Capacity.{max_capacity};
 ghost use Rattle.listing.specs.Exact.{small_capacity, Unarranged, Arranges};
 
-use super::{SMALL, Shape};
-use lists::MAX_CAPACITY;
+use super::{LARGE, SMALL, Shape};
+use lists::list::TermBuffer;
+
+// Puts the terms of one node in two slices into the order by the weights that the sums are of.
+fn arrange_in(
+    positives: &mut [u64],
+    negatives: &mut [u64],
+    keys: &mut [u32],
+    spare: &mut [u32],
+    copy: &mut [u64],
+    sums: &[u16],
+)
+    requires arrangeable { Arrangeable positives.old negatives.old × (length sums.now ≡ sum_count) × Light sums.now }
+    requires in_bounds { (length positives.old ≤ length keys.old) × (length positives.old ≤ length spare.old)
+        × (length positives.old ≤ length copy.old) }
+    requires same_length { length negatives.old ≡ length positives.old }
+    ensures { Arranged sums.now (by_sign positives.old negatives.old) (by_sign positives.new negatives.new) }
+{
+    let mut list = TermBuffer {
+        positives,
+        negatives,
+    };
+    arranging::arrange(&mut list, keys, spare, copy, sums);
+}
 
 // Puts the terms of each node, which are in order without weights, into the order by weights. keys, spare and copy are scratch: what they
 // hold before and after is left free.
@@ -28,7 +53,7 @@ fn arrange_nodes(
     for i in 0..shape.nodes {
         let at = i * shape.capacity;
         let end = at + (counts[i] as usize);
-        arranging::arrange(
+        arrange_in(
             &mut positives[at..end],
             &mut negatives[at..end],
             keys,
@@ -39,42 +64,22 @@ fn arrange_nodes(
     }
 }
 
-// Puts the terms of each node into the order by weights, with scratch for a small capacity.
-fn arrange_small(
+// Puts the terms of each node into the order by weights, with scratch for so many terms.
+fn arrange_with<const ROOM: usize>(
     positives: &mut [u64],
     negatives: &mut [u64],
     counts: &[u32],
     weights: &[u32],
     shape: Shape,
 )
-    requires { Unarranged shape weights.now (by_sign positives.old negatives.old) counts.now
-        × (shape.capacity ≤ small_capacity) }
+    requires unarranged { Unarranged shape weights.now (by_sign positives.old negatives.old) counts.now }
+    requires room { (shape.capacity ≤ ROOM) × (ROOM ≤ max_capacity) }
     ensures { Arranges shape weights.now (by_sign positives.old negatives.old) counts.now
         (by_sign positives.new negatives.new) }
 {
-    let mut keys = [0u32; SMALL];
-    let mut spare = [0u32; SMALL];
-    let mut copy = [0u64; SMALL];
-    arrange_nodes(
-        positives, negatives, counts, &mut keys, &mut spare, &mut copy, weights, shape,
-    );
-}
-
-// Puts the terms of each node into the order by weights, with scratch for any capacity.
-fn arrange_large(
-    positives: &mut [u64],
-    negatives: &mut [u64],
-    counts: &[u32],
-    weights: &[u32],
-    shape: Shape,
-)
-    requires { Unarranged shape weights.now (by_sign positives.old negatives.old) counts.now }
-    ensures { Arranges shape weights.now (by_sign positives.old negatives.old) counts.now
-        (by_sign positives.new negatives.new) }
-{
-    let mut keys = [0u32; MAX_CAPACITY as usize];
-    let mut spare = [0u32; MAX_CAPACITY as usize];
-    let mut copy = [0u64; MAX_CAPACITY as usize];
+    let mut keys = [0u32; ROOM];
+    let mut spare = [0u32; ROOM];
+    let mut copy = [0u64; ROOM];
     arrange_nodes(
         positives, negatives, counts, &mut keys, &mut spare, &mut copy, weights, shape,
     );
@@ -94,9 +99,9 @@ pub fn arrange_all(
 {
     if weighing::any_weight(weights) {
         if shape.capacity <= SMALL {
-            arrange_small(positives, negatives, counts, weights, shape);
+            arrange_with::<SMALL>(positives, negatives, counts, weights, shape);
         } else {
-            arrange_large(positives, negatives, counts, weights, shape);
+            arrange_with::<LARGE>(positives, negatives, counts, weights, shape);
         }
     }
 }

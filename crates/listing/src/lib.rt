@@ -17,10 +17,14 @@ mod arrange;
 
 use arrange::arrange_all;
 use lists::MAX_CAPACITY;
+use lists::list::TermBuffer;
 use table::{MAX_NODES, Refusal};
 
 // The capacity up to which scratch is small.
 pub const SMALL: usize = 256;
+
+// The largest capacity.
+const LARGE: usize = MAX_CAPACITY as usize;
 
 // The part of the buffer that holds the first count entries of the node; the empty part for arguments out of range.
 pub fn view(buffer: &[u64], capacity: u32, node: u32, count: u32) -> &[u64]
@@ -64,26 +68,24 @@ pub struct Shape {
 }
 
 // Fills the nodes' parts of buffers of zeros, the lowest node first; false where a node has more terms than the capacity.
-// ap, an, bp and bn are scratch for the terms of a node's children: what they hold before and after is left free.
+// low and high are scratch for the terms of a node's children: what they hold before and after is left free.
 fn fill_nodes(
     positives: &mut [u64],
     negatives: &mut [u64],
     counts: &mut [u32],
-    ap: &mut [u64],
-    an: &mut [u64],
-    bp: &mut [u64],
-    bn: &mut [u64],
+    low: &mut TermBuffer,
+    high: &mut TermBuffer,
     words: &[u32],
     shape: Shape,
 ) -> bool
     requires zeroed { Zeroed shape words.now (by_sign positives.old negatives.old) counts.old }
-    requires has_place { HasPlace shape.capacity ap.old an.old bp.old bn.old }
+    requires has_place { HasPlace shape.capacity low.old high.old }
     ensures { Tried shape.variables shape.nodes (signed_function shape.sign words.now) shape.capacity
         (by_sign positives.new negatives.new) counts.new result }
 {
     for i in 0..shape.nodes {
         let part = nodes::part_of(words, i, shape.capacity, shape.sign);
-        let Some(c) = nodes::fill_node(positives, negatives, ap, an, bp, bn, counts, part) else {
+        let Some(c) = nodes::fill_node(positives, negatives, low, high, counts, part) else {
             return false;
         };
         counts[i] = c as u32;
@@ -91,45 +93,33 @@ fn fill_nodes(
     true
 }
 
-// Fills the nodes' parts, with scratch for a small capacity.
-fn fill_small(
+// Fills the nodes' parts, with scratch for so many terms of each child.
+fn fill_with<const ROOM: usize>(
     positives: &mut [u64],
     negatives: &mut [u64],
     counts: &mut [u32],
     words: &[u32],
     shape: Shape,
 ) -> bool
-    requires { Zeroed shape words.now (by_sign positives.old negatives.old) counts.old × (shape.capacity ≤ small_capacity) }
+    requires zeroed { Zeroed shape words.now (by_sign positives.old negatives.old) counts.old }
+    requires room { (shape.capacity ≤ ROOM) × (ROOM ≤ max_capacity) }
     ensures { Tried shape.variables shape.nodes (signed_function shape.sign words.now) shape.capacity
         (by_sign positives.new negatives.new) counts.new result }
 {
-    let mut ap = [0u64; SMALL];
-    let mut an = [0u64; SMALL];
-    let mut bp = [0u64; SMALL];
-    let mut bn = [0u64; SMALL];
+    let mut ap = [0u64; ROOM];
+    let mut an = [0u64; ROOM];
+    let mut bp = [0u64; ROOM];
+    let mut bn = [0u64; ROOM];
+    let mut low = TermBuffer {
+        positives: &mut ap,
+        negatives: &mut an,
+    };
+    let mut high = TermBuffer {
+        positives: &mut bp,
+        negatives: &mut bn,
+    };
     fill_nodes(
-        positives, negatives, counts, &mut ap, &mut an, &mut bp, &mut bn, words, shape,
-    )
-}
-
-// Fills the nodes' parts, with scratch for any capacity.
-fn fill_large(
-    positives: &mut [u64],
-    negatives: &mut [u64],
-    counts: &mut [u32],
-    words: &[u32],
-    shape: Shape,
-) -> bool
-    requires { Zeroed shape words.now (by_sign positives.old negatives.old) counts.old }
-    ensures { Tried shape.variables shape.nodes (signed_function shape.sign words.now) shape.capacity
-        (by_sign positives.new negatives.new) counts.new result }
-{
-    let mut ap = [0u64; MAX_CAPACITY as usize];
-    let mut an = [0u64; MAX_CAPACITY as usize];
-    let mut bp = [0u64; MAX_CAPACITY as usize];
-    let mut bn = [0u64; MAX_CAPACITY as usize];
-    fill_nodes(
-        positives, negatives, counts, &mut ap, &mut an, &mut bp, &mut bn, words, shape,
+        positives, negatives, counts, &mut low, &mut high, words, shape,
     )
 }
 
@@ -146,9 +136,9 @@ fn fill_all(
         (by_sign positives.new negatives.new) counts.new result }
 {
     if shape.capacity <= SMALL {
-        return fill_small(positives, negatives, counts, words, shape);
+        return fill_with::<SMALL>(positives, negatives, counts, words, shape);
     }
-    fill_large(positives, negatives, counts, words, shape)
+    fill_with::<LARGE>(positives, negatives, counts, words, shape)
 }
 
 // Lists in buffers of just the needed length, and zeroes them where the circuit has more prime implicants than the capacity.

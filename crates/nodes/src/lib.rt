@@ -228,7 +228,8 @@ pub fn fill_node(
         × NodeGiven part.sign part.gate (child_terms (by_sign positives.old negatives.old) counts.now part)
         (places part.gate part.children.count) }
     requires has_place { HasPlace part.capacity low.old high.old }
-    ensures { PartFilled
+    ensures has_place { HasPlace part.capacity low.new high.new }
+    ensures made { PartFilled
         (node_made part.sign part.gate part.children.count
         (child_terms (by_sign positives.old negatives.old) counts.now part))
         part.at part.capacity (by_sign positives.old negatives.old) (by_sign positives.new negatives.new) result }

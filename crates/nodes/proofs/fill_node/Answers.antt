@@ -76,11 +76,11 @@ fill_part-requires c =
       has_place = c.loop-k.invariant.1;
     }
 
-pub returns-in_err-count : goal.returns-in_err-count
-returns-in_err-count c =
-    let s = (goal.at.returns-in_err-count c).Start in
-    let l = (goal.at.returns-in_err-count c).At-loop-k in
-    let j = this (goal.at.returns-in_err-count c).In-loop-k in
+pub returns-in_err-count-clause-made : goal.returns-in_err-count-clause-made
+returns-in_err-count-clause-made c =
+    let s = (goal.at.returns-in_err-count-clause-made c).Start in
+    let l = (goal.at.returns-in_err-count-clause-made c).At-loop-k in
+    let j = this (goal.at.returns-in_err-count-clause-made c).In-loop-k in
     let h = c.requires.laid in
     rw c.from_residual.ensures
     (making-full (lent s) c.args.counts.now c.args.part h.0 h.1 (c.loop-k.k - 1) (now l) c.loop-k.made j c.child_at.result
@@ -98,10 +98,10 @@ loop-k-preserved c =
     c.child_at.ensures.0 c.child_at.ensures.1 (by_sign c.fill_part.new.positives c.fill_part.new.negatives) (Some n)
     c.in_ok-count.ensures.made n refl, c.fill_part.ensures.has_place)
 
-pub returns : goal.returns
-returns c =
-    let s = (goal.at.returns c).Start in
-    let l = (goal.at.returns c).At-loop-k in
+pub returns-clause-made : goal.returns-clause-made
+returns-clause-made c =
+    let s = (goal.at.returns-clause-made c).Start in
+    let l = (goal.at.returns-clause-made c).At-loop-k in
     let x = c.args in
     let h = c.requires.laid in
     let none : c.loop-k.k ≡ 0 = omega arith in

@@ -6,5 +6,4 @@ use Rattle.listing.proofs.arrange.arrange_all.Goals as goal
 
 pub returns-else-any_weight : goal.returns-else-any_weight
 returns-else-any_weight c =
-    let m = c.before.before.before.before.before.before.args.weights.now in
-    λ F h. holds-none (none-weighs m (sym c.before.any_weight.ensures ∙ c.if-any_weight.false)) h
+    λ F h. holds-none (none-weighs c.args.weights.now (sym c.any_weight.ensures ∙ c.if-any_weight.false)) h

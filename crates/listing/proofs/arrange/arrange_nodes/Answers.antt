@@ -1,11 +1,12 @@
-use Prim.Native.Nat.{ℕ, suc, ◌-◌, ◌+◌, ◌*◌, ◌<◌, ◌≤◌, zero-le}
+use Prim.Native.Nat.{ℕ, suc, ◌-◌, ◌+◌, ◌*◌, ◌≤◌, zero-le}
 use mathlib.Core.Path.{◌≡◌, refl, sym, ap, subst, ◌∙◌}
 use mathlib.Core.Bool.{Bool, true, false}
 use mathlib.Core.List.{List, [], ◌++◌}
 use native.Mathlib.Nat.{le_trans, le_of_eq, suc-mul, mul-le-mul_right}
 use native.Mathlib.Omega.{arith}
 use native.Mathlib.Numerals.{add-one}
-use lib.ListN.{length, get_or, take, drop}
+use lib.ListN.{length, get_or, take, drop, length-drop}
+use lib.Seq.{length-take-le}
 use Rattle.masks.proofs.Numbers.{product_le}
 use Rattle.table.specs.Node.{max_nodes}
 use Rattle.lists.specs.Capacity.{max_capacity}
@@ -20,17 +21,9 @@ use Rattle.weighing.proofs.Weights.{weight-most, fitting-length, fitting-most}
 use Rattle.arranging.specs.Arranged.{Light, Weighs, Arrangeable}
 use Rattle.listing.specs.Exact.{Holds}
 use Rattle.listing.proofs.Arranged.{ArrangedTo, arranged-start, arranged-end, arranged-length, arranged-more}
-use Rattle.listing.proofs.Arranged.{whole, all-counted, counted, own-short, own-arrangeable}
+use Rattle.listing.proofs.Arranged.{all-counted, counted, own-arrangeable}
 use Rattle.listing.proofs.arrange.arrange_nodes.Goals as goal
-use Rattle.listing.proofs.arrange.arrange_nodes.Lts as lts
-use Rattle.listing.proofs.arrange.arrange_nodes.Reads as reads
-use Rattle.listing.proofs.arrange.arrange_nodes.Tie as tie
-
-abbrev Start : Type 0
-Start = lts.Start tie.the-claims reads.Pre reads.Post goal.the-invariant-loop-i goal.the-decreases-loop-i tie.handed_clauses
-
-abbrev Loop : Type 0
-Loop = lts.At-loop tie.the-claims reads.Pre reads.Post goal.the-invariant-loop-i goal.the-decreases-loop-i tie.handed_clauses
+use Rattle.listing.proofs.arrange.arrange_nodes.Goals.{Start, In-loop-i}
 
 -- ---- what is known at the start
 module _ (s : Start) where
@@ -58,164 +51,133 @@ module _ (s : Start) where
   short = product_le n R max_nodes max_capacity s.requires.unarranged.nodes-few s.requires.unarranged.small
 
 -- ---- and at a turn
-module _ (a : Loop) where
+module _ (a : In-loop-i) where
   abbrev start : Start
-  start = a.before.before.before.before.before.before.before.before.before.before.before
+  start = (goal.at.In-loop-i a).Start
 
   abbrev now : Bool → List ℕ
   now = by_sign a.loop-i.positives a.loop-i.negatives
 
-  weighs : Weighs (m start) a.before.before.fill.new.sums
+  weighs : Weighs a.args.weights.now a.fill.new.sums
   weighs = summed-weight a.loop-i.invariant.1 (few start)
 
-  light : Light a.before.before.fill.new.sums
+  light : Light a.fill.new.sums
   light t = omega (arith, weighs t, weight-most (m start) (bounded start) (few start) t)
 
+  -- the nodes below are in order
+  state : ArrangedTo (m start) a.args.shape.variables a.requires.unarranged.listed (R start)
+      (by_sign a.args.positives.now a.args.negatives.now) a.loop-i.i now
+  state = a.loop-i.invariant.2 a.requires.unarranged.listed (holds start)
+
   sizes : (b : Bool) → length (now b) ≡ n start * R start
-  sizes b =
-      arranged-length (m start) (holds start) a.loop-i.i now a.loop-i.invariant.0 (a.loop-i.invariant.2
-      start.requires.unarranged.listed (holds start)) b
+  sizes b = arranged-length (m start) (holds start) a.loop-i.i now a.loop-i.invariant.0 state b
 
-  module _ (lt : a.loop-i.i < n start) where
-    abbrev at : ℕ
-    at = a.loop-i.i * R start
+  -- the node's part ends where the next begins, and its terms are in it
+  abbrev at : ℕ
+  at = a.loop-i.i * R start
 
-    abbrev count : ℕ
-    count = get_or start.args.counts.now a.loop-i.i 0
+  abbrev count : ℕ
+  count = get_or a.args.counts.now a.loop-i.i 0
 
-    -- the node's part ends where the next begins, and its terms are in it
-    ends : at + R start ≤ n start * R start
-    ends =
-        let k : suc a.loop-i.i * R start ≤ n start * R start = mul-le-mul_right (R start) lt in
-        omega (arith, suc-mul a.loop-i.i (R start))
+  ends : at + R start ≤ n start * R start
+  ends =
+      let k : suc a.loop-i.i * R start ≤ n start * R start = mul-le-mul_right (R start) a.loop-i-test.true in
+      omega (arith, suc-mul a.loop-i.i (R start))
 
-    fits : count ≤ R start
-    fits = le_trans (le_of_eq (counted (m start) (holds start) a.loop-i.i lt)) ((holds start).fits a.loop-i.i lt)
+  fits : count ≤ R start
+  fits = le_trans (le_of_eq (counted (m start) (holds start) a.loop-i.i a.loop-i-test.true)) ((holds start).fits a.loop-i.i a.loop-i-test.true)
+
+  size : at + count - at ≡ count
+  size = omega arith
+
+  -- the terms of the part, as they are lent
+  abbrev part : Bool → List ℕ
+  part b = take (at + count - at) (drop at (now b))
+
+  part-size : (b : Bool) → length (part b) ≡ count
+  part-size b =
+      ap (λ (k : ℕ). length (take k (drop at (now b)))) size
+      ∙ length-take-le count (drop at (now b)) (rw (length-drop at (now b)) (omega (arith, sizes b, ends, fits)))
 
 pub fill-requires : goal.fill-requires
-fill-requires c = (refl, bounded c.before.before.before.before.before.before.before.before.before)
+fill-requires c = (refl, bounded (goal.at.fill-requires c).Start)
 
 pub loop-i-init : goal.loop-i-init
 loop-i-init c =
-    let s = c.before.before.before.before.before.before.before.before.before.before in
-    (zero-le, c.before.fill.ensures, (λ F h. arranged-start (m s.before) h), (refl, refl, refl))
+    let s = (goal.at.loop-i-init c).Start in
+    (zero-le, c.fill.ensures, (λ F h. arranged-start (m s) h), (refl, refl, refl))
 
 pub overflow_mul-at : goal.overflow_mul-at
-overflow_mul-at c =
-    let a : Loop = c.before.before.before.before in
-    let lt : a.loop-i.i < n (start a) = omega arith in
-    omega (arith, ends a lt, short (start a))
+overflow_mul-at c = let a = (goal.at.overflow_mul-at c).In-loop-i in omega (arith, ends a, short (start a))
 
 pub bounds-counts-i : goal.bounds-counts-i
 bounds-counts-i c =
-    let s = start c.before.before.before.before.before in
-    omega (arith, c.loop-i-test.true, all-counted (m s) (holds s))
-
-pub overflow_cast-end : goal.overflow_cast-end
-overflow_cast-end c =
-    let a : Loop = c.before.before.before.before.before in
-    let lt : a.loop-i.i < n (start a) = omega arith in
-    omega (arith, fits a lt, (start a).requires.unarranged.small)
+    let s = (goal.at.bounds-counts-i c).Start in omega (arith, c.loop-i-test.true, all-counted (m s) (holds s))
 
 pub overflow_add-end : goal.overflow_add-end
-overflow_add-end c =
-    let a : Loop = c.before.before.before.before.before in
-    let lt : a.loop-i.i < n (start a) = omega arith in
-    omega (arith, ends a lt, fits a lt, short (start a))
+overflow_add-end c = let a = (goal.at.overflow_add-end c).In-loop-i in omega (arith, ends a, fits a, short (start a))
 
-pub offset_bounds-positives-at : goal.offset_bounds-positives-at
-offset_bounds-positives-at c =
-    let a : Loop = c.before.before.before.before.before in
-    let lt : a.loop-i.i < n (start a) = omega arith in
-    omega (arith, ends a lt, short (start a))
+pub slice_bounds-arrange_in-end : goal.slice_bounds-arrange_in-end
+slice_bounds-arrange_in-end c =
+    let a = (goal.at.slice_bounds-arrange_in-end c).In-loop-i in omega (arith, ends a, fits a, sizes a true)
 
-pub offset_bounds-negatives-at : goal.offset_bounds-negatives-at
-offset_bounds-negatives-at c =
-    let a : Loop = c.before.before.before.before.before.before in
-    let lt : a.loop-i.i < n (start a) = omega arith in
-    omega (arith, ends a lt, short (start a))
+pub slice_bounds-arrange_in-end-in-loop-i : goal.slice_bounds-arrange_in-end-in-loop-i
+slice_bounds-arrange_in-end-in-loop-i c =
+    let a = (goal.at.slice_bounds-arrange_in-end-in-loop-i c).In-loop-i in omega (arith, ends a, fits a, sizes a false)
 
-pub slice_bounds-arrange-end : goal.slice_bounds-arrange-end
-slice_bounds-arrange-end c =
-    let a : Loop = c.before.before.before.before.before in
-    let lt : a.loop-i.i < n (start a) = omega arith in
-    omega (arith, ends a lt, fits a lt, sizes a true)
-
-pub slice_bounds-arrange-end-in-loop-i : goal.slice_bounds-arrange-end-in-loop-i
-slice_bounds-arrange-end-in-loop-i c =
-    let a : Loop = c.before.before.before.before.before.before in
-    let lt : a.loop-i.i < n (start a) = omega arith in
-    omega (arith, ends a lt, fits a lt, sizes a false)
-
-pub arrange-requires : goal.arrange-requires
-arrange-requires c =
-    let a : Loop = c.before.before.before.before.before.before.before.before.before.before.before in
-    let s = start a in
-    let lt : a.loop-i.i < n s = omega arith in
-    let F = s.requires.unarranged.listed in
-    let st = a.loop-i.invariant.2 F (holds s) in
-    let e : at a lt + count a lt - at a lt ≡ count a lt = omega arith in
-    let short : (b : Bool) → length (take (at a lt + count a lt - at a lt) (drop (at a lt) (now a b))) ≤ R s =
-    λ b. subst (λ (k : ℕ). length (take k (drop (at a lt) (now a b))) ≤ R s) (sym e)
-    (own-short (m s) (holds s) a.loop-i.i (now a) lt st b) in record {
+pub arrange_in-requires : goal.arrange_in-requires
+arrange_in-requires c =
+    let a = (goal.at.arrange_in-requires c).In-loop-i in
+    let s = start a in record {
       arrangeable = (
-        subst (λ (k : ℕ). Arrangeable (take k (drop (at a lt) (now a true))) (take k (drop (at a lt) (now a false)))) (sym e)
-            (own-arrangeable (m s) (holds s) a.loop-i.i (now a) lt st s.requires.unarranged.small),
+        subst (λ (k : ℕ). Arrangeable (take k (drop (at a) (now a true))) (take k (drop (at a) (now a false)))) (sym (size a))
+            (own-arrangeable (m s) (holds s) a.loop-i.i (now a) a.loop-i-test.true (state a) s.requires.unarranged.small),
         a.loop-i.invariant.1.size,
         light a,
       );
-      positives_in_bounds = (
-        omega (arith, short true, a.loop-i.invariant.3.0, s.requires.capacity_in_bounds.0),
-        omega (arith, short true, a.loop-i.invariant.3.1, s.requires.capacity_in_bounds.1),
-        omega (arith, short true, a.loop-i.invariant.3.2, s.requires.capacity_in_bounds.2),
+      in_bounds = (
+        omega (arith, part-size a true, fits a, a.loop-i.invariant.3.0, s.requires.capacity_in_bounds.0),
+        omega (arith, part-size a true, fits a, a.loop-i.invariant.3.1, s.requires.capacity_in_bounds.1),
+        omega (arith, part-size a true, fits a, a.loop-i.invariant.3.2, s.requires.capacity_in_bounds.2),
       );
+      same_length = part-size a false ∙ sym (part-size a true);
     }
 
 pub loop-i-preserved : goal.loop-i-preserved
 loop-i-preserved c =
-    let p = c.before.before.before.before.before.before.before.before.before.before in
-    let a : Loop = p.before.before.before.before.before.before.before.before.before.before.before.before in
+    let a = (goal.at.loop-i-preserved c).In-loop-i in
     let s = start a in
-    let lt : a.loop-i.i < n s = omega arith in
-    let k : ℕ = at a lt + count a lt - at a lt in
-    let e : k ≡ count a lt = omega arith in
-    let s₀ : Bool → List ℕ = by_sign s.args.positives.now s.args.negatives.now in
-    let s' : Bool → List ℕ =
-    by_sign (take (at a lt) (now a true) ++ (p.arrange.new.positives ++ drop k (drop (at a lt) (now a true))))
-    (take (at a lt) (now a false) ++ (p.arrange.new.negatives ++ drop k (drop (at a lt) (now a false)))) in
-    let put : (b : Bool) → s' b ≡ take (at a lt) (now a b)
-    ++ (masks_of b (sort (before (m s)) (terms_of (take k (drop (at a lt) (now a true))) (take k (drop (at a lt) (now a false)))))
-    ++ drop k (drop (at a lt) (now a b))) =
-    λ b. elim b as (λ b. s' b ≡ take (at a lt) (now a b)
-    ++ (masks_of b (sort (before (m s)) (terms_of (take k (drop (at a lt) (now a true))) (take k (drop (at a lt) (now a false)))))
-    ++ drop k (drop (at a lt) (now a b)))) [
-      | true ↦ ap (λ (z : List ℕ). take (at a lt) (now a true) ++ (z ++ drop k (drop (at a lt) (now a true))))
-          (p.arrange.ensures (m s) (weighs a) true)
-      | false ↦ ap (λ (z : List ℕ). take (at a lt) (now a false) ++ (z ++ drop k (drop (at a lt) (now a false))))
-          (p.arrange.ensures (m s) (weighs a) false)
+    let k : ℕ = at a + count a - at a in
+    let first : Bool → List ℕ = by_sign s.args.positives.now s.args.negatives.now in
+    let then : Bool → List ℕ =
+    by_sign (take (at a) (now a true) ++ (c.arrange_in.new.positives ++ drop k (drop (at a) (now a true))))
+    (take (at a) (now a false) ++ (c.arrange_in.new.negatives ++ drop k (drop (at a) (now a false)))) in
+    let Put : Bool → Type 0 =
+    λ b. then b ≡ take (at a) (now a b)
+    ++ (masks_of b (sort (before (m s)) (terms_of (part a true) (part a false))) ++ drop k (drop (at a) (now a b))) in
+    let put : (b : Bool) → Put b =
+    λ b. elim b as Put [
+      | true ↦ ap (λ (z : List ℕ). take (at a) (now a true) ++ (z ++ drop k (drop (at a) (now a true))))
+          (c.arrange_in.ensures (m s) (weighs a) true)
+      | false ↦ ap (λ (z : List ℕ). take (at a) (now a false) ++ (z ++ drop k (drop (at a) (now a false))))
+          (c.arrange_in.ensures (m s) (weighs a) false)
     ] in (
-      omega (arith, lt),
-      a.loop-i.invariant.1,
-      (λ F h. subst (λ (j : ℕ). ArrangedTo (m s) s.args.shape.variables F (R s) s₀ j s') (sym (add-one a.loop-i.i))
-          (arranged-more (m s) h a.loop-i.i (now a) lt (a.loop-i.invariant.2 F h) k e s' put)),
+      omega (arith, c.loop-i-test.true),
+      c.loop-i.invariant.1,
+      (λ F h. subst (λ (j : ℕ). ArrangedTo (m s) s.args.shape.variables F (R s) first j then) (sym (add-one c.loop-i.i))
+          (arranged-more (m s) h c.loop-i.i (now a) c.loop-i-test.true (c.loop-i.invariant.2 F h) k (size a) then put)),
       (
-        p.arrange.auto.keys ∙ a.loop-i.invariant.3.0,
-        p.arrange.auto.spare ∙ a.loop-i.invariant.3.1,
-        p.arrange.auto.copy ∙ a.loop-i.invariant.3.2,
+        c.arrange_in.auto.keys ∙ c.loop-i.invariant.3.0,
+        c.arrange_in.auto.spare ∙ c.loop-i.invariant.3.1,
+        c.arrange_in.auto.copy ∙ c.loop-i.invariant.3.2,
       ),
     )
 
-pub shape_of-positives : goal.shape_of-positives
-shape_of-positives c = let a : Loop = c.before.before.before in sizes a true ∙ sym (whole (m (start a)) (holds (start a)) true)
-
-pub shape_of-negatives : goal.shape_of-negatives
-shape_of-negatives c = let a : Loop = c.before.before.before in sizes a false ∙ sym (whole (m (start a)) (holds (start a)) false)
-
 pub returns : goal.returns
 returns c =
-    let a : Loop = c.before.before.before in
-    let s = start a in
-    let e : a.loop-i.i ≡ n s = omega arith in
-    let s₀ : Bool → List ℕ = by_sign s.args.positives.now s.args.negatives.now in
-    λ F h. arranged-end (m s) h (now a)
-    (subst (λ (k : ℕ). ArrangedTo (m s) s.args.shape.variables F (R s) s₀ k (now a)) e (a.loop-i.invariant.2 F h))
+    let s = (goal.at.returns c).Start in
+    let e : c.loop-i.i ≡ n s = omega (arith, c.loop-i-test.false) in
+    let first : Bool → List ℕ = by_sign c.args.positives.now c.args.negatives.now in
+    let last : Bool → List ℕ = by_sign c.loop-i.positives c.loop-i.negatives in
+    λ F h. arranged-end (m s) h last
+    (subst (λ (k : ℕ). ArrangedTo (m s) c.args.shape.variables F (R s) first k last) e (c.loop-i.invariant.2 F h))

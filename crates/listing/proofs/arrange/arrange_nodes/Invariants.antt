@@ -1,7 +1,7 @@
 -- `listing::arrange::arrange_nodes` meets its contract.
 -- The loop's invariant: the sums are of the weights; the nodes below i are in order by them, the others as they were; the scratch keeps
 -- its length.
-use Prim.Native.Nat.{ℕ, ◌-◌, ◌≤◌}
+use Prim.Native.Nat.{ℕ, ◌≤◌}
 use mathlib.Core.Path.{◌≡◌}
 use mathlib.Core.Bool.{Bool}
 use mathlib.Core.List.{[]}
@@ -14,12 +14,9 @@ use Rattle.listing.proofs.arrange.arrange_nodes.Given as goal
 
 abbrev pub invariant-loop-i : goal.invariant-loop-i
 invariant-loop-i l =
-    (l.i ≤ l.shape.nodes) × Sums l.weights l.sums
-    × ((F : ℕ → ℕ → Bool) → Holds [] l.shape.variables l.shape.nodes F l.shape.capacity (by_sign l.initial.positives
-    l.initial.negatives) l.counts
-    → ArrangedTo l.weights l.shape.variables F l.shape.capacity (by_sign l.initial.positives l.initial.negatives) l.i (by_sign
-    l.positives l.negatives))
+    let h = l.shape in
+    let first = by_sign l.initial.positives l.initial.negatives in
+    (l.i ≤ h.nodes) × Sums l.weights l.sums
+    × ((F : ℕ → ℕ → Bool) → Holds [] h.variables h.nodes F h.capacity first l.counts
+    → ArrangedTo l.weights h.variables F h.capacity first l.i (by_sign l.positives l.negatives))
     × ((length l.keys ≡ length l.initial.keys) × (length l.spare ≡ length l.initial.spare) × (length l.copy ≡ length l.initial.copy))
-
-abbrev pub decreases-loop-i : goal.decreases-loop-i
-decreases-loop-i l = l.shape.nodes - l.i

@@ -32,8 +32,3 @@ loop-v-preserved c = (
   one_more c.args.t c.loop-v.v c.has_bit.ensures c.has_bit-in-loop-v.ensures c.loop-v.invariant.1 c.put_mark-q.ensures.0
       c.put_mark-p.ensures.0,
 )
-
-pub returns : goal.returns
-returns c =
-    let e : c.loop-v.v ≡ 64 = omega (arith, c.loop-v-test.false, c.loop-v.auto.v-end) in
-    (same (ap (literals_text c.args.t) e) c.loop-v.invariant.1, omega (arith, c.loop-v.invariant.0))

@@ -44,9 +44,6 @@ loop-preserved c = (
   one_more c.loop.counter c.args.v c.loop.invariant.0 c.loop.invariant.2 c.put_digit-p.ensures.0,
 )
 
-pub put-requires : goal.put-requires
-put-requires c = omega (arith, c.loop.invariant.1, c.loop.auto.counter-end)
-
 pub returns : goal.returns
 unfolding whole_decimal
 returns c =

@@ -1,4 +1,4 @@
-use Rattle.std.proofs.Common.{◌≡◌, ℕ, List, Option, Result, sym, ap, ◌∙◌, refl}
+use Rattle.std.proofs.Common.{◌≡◌, ℕ, List, Option, Result, sym, ap, ◌∙◌}
 use Rattle.std.proofs.lemmas.Result.{err_from_is_err_and}
 use Rattle.text_assignment.specs.Line.{members}
 use Rattle.text_assignment.specs.Members.{member_at}
@@ -18,9 +18,6 @@ pub returns-in_err-v : goal.returns-in_err-v
 returns-in_err-v c =
     let p = err_from_is_err_and c.from_residual.result c.from_residual.ensures.1 in
     rw (p.1, p.2) (follows _ _ _ _ _ _ c.in_err-v.ensures.0 _ c.loop-v.invariant.1)
-
-pub loop-v-init : goal.loop-v-init
-loop-v-init c = (c.requires.0, refl)
 
 pub loop-v-preserved : goal.loop-v-preserved
 loop-v-preserved c =

@@ -4,7 +4,6 @@ use mathlib.Core.Logic.{◌⊎◌, inl, inr}
 use mathlib.Core.List.{List, [], ◌∷◌, ◌++◌}
 use native.Mathlib.Omega.{arith}
 use lib.ListN.{length, length-append}
-use borrow.Author.Rules.{rules}
 use Rattle.std.specs.Prelude.{Result, Ok, Err}
 use Rattle.std.proofs.lemmas.Result.{err_from_is_err_and}
 use Rattle.steps.specs.Steps.{columns, put}
@@ -13,7 +12,6 @@ use Rattle.steps.specs.declared.Step.{Step}
 use Rattle.steps.proofs.ColumnLaws.{columns-none, columns-with}
 use Rattle.table.specs.Outcome.{refused}
 use Rattle.text.specs.Read.{byte_at}
-use Rattle.text.proofs.Laws.{inside}
 use Rattle.text_script.specs.Lines.{line_then, Reads}
 use Rattle.text_script.specs.Script.{with, line, opened}
 use Rattle.text_script.specs.declared.answer.ScriptFault.{ScriptFault}
@@ -47,10 +45,6 @@ stuck_is s N room count at c es n e d (inr (l, o)) = closed_is s N room es at (�
 pub loop-columns-init : goal.loop-columns-init
 loop-columns-init c = ([], starts _ _ _ _ (c.no_columns-columns.ensures ∙ columns-none))
 
--- where the byte is a bracket, the text goes on
-more : (s : List ℕ) (at c : ℕ) → c ≡ byte_at s at → c ≡ 40 → at < length s
-more s at c e b = inside s at (omega (arith, sym e ∙ b))
-
 -- what the line is read as
 follows : (s : List ℕ) (N room at c : ℕ) (es : List Step) (r : Result (Step × ℕ) ScriptFault) → Reads s N opened (at + 1) r
     → length es < room → c ≡ byte_at s at → c ≡ 40 → line_then s N room es r ≡ on s N room (line es) at
@@ -69,12 +63,6 @@ returns-then-room-count c =
     (stuck_is _ _ _ _ _ _ c.loop-columns.invariant.0 p.counted c.byte_at-c.ensures c.if-c-eq-END.false c.then-room-count.either
     ∙ sym p.left)
 
-pub overflow_add-at : goal.overflow_add-at
-overflow_add-at c = let l = more c.args.s.now c.loop-columns.at c.byte_at-c.result c.byte_at-c.ensures c.if-c-ne-OPEN.false in search rules
-
-pub line_at-requires : goal.line_at-requires
-line_at-requires c = omega (arith, more c.args.s.now c.loop-columns.at c.byte_at-c.result c.byte_at-c.ensures c.if-c-ne-OPEN.false)
-
 pub returns-in_err-step : goal.returns-in_err-step
 returns-in_err-step c =
     let e = err_from_is_err_and c.from_residual.result c.from_residual.ensures.1 in
@@ -84,14 +72,6 @@ returns-in_err-step c =
     (follows _ _ _ _ _ c.loop-columns.invariant.0 (Err c.in_err-step.field-0.0) c.in_err-step.ensures.0
     (omega (arith, p.counted, c.if-room-count.false))
     c.byte_at-c.ensures c.if-c-ne-OPEN.false ∙ sym p.left))
-
-pub overflow_add-count : goal.overflow_add-count
-overflow_add-count c = omega (arith, c.if-room-count.false, c.requires)
-
-pub loop-columns-smaller : goal.loop-columns-smaller
-loop-columns-smaller c =
-    let n = c.in_ok-step.ensures.1 in
-    omega (arith, n.0, n.1, more c.args.s.now c.loop-columns.at c.byte_at-c.result c.byte_at-c.ensures c.if-c-ne-OPEN.false)
 
 pub loop-columns-preserved : goal.loop-columns-preserved
 loop-columns-preserved c =

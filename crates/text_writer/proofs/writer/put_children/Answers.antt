@@ -26,9 +26,6 @@ pub loop-k-init : goal.loop-k-init
 unfolding print_form
 loop-k-init c = (omega arith, nothing)
 
-pub bounds-nodes-k : goal.bounds-nodes-k
-bounds-nodes-k c = let few = c.requires.1 in omega arith
-
 pub loop-k-preserved : goal.loop-k-preserved
 loop-k-preserved c = let cs = c.args.children in
     let long : length cs.nodes ≡ max_children = search rules in
@@ -36,11 +33,4 @@ loop-k-preserved c = let cs = c.args.children in
     let less : c.loop-k.k < length cs.nodes = omega arith in (
       omega (arith, c.put_child-p.ensures.1, c.loop-k.invariant.0),
       one_more _ _ less c.loop-k.invariant.1 c.put_child-p.ensures.0,
-    )
-
-pub returns : goal.returns
-returns c = let e : c.loop-k.k ≡ c.args.children.count = omega (arith, c.loop-k-test.false, c.loop-k.auto.k-end) in
-    let few = c.requires.1 in (
-      same (ap (λ (k : ℕ). print_forms (line_forms (take k c.args.children.nodes))) e) c.loop-k.invariant.1,
-      omega (arith, c.loop-k.invariant.0),
     )

@@ -33,9 +33,6 @@ pub loop-i-init : goal.loop-i-init
 unfolding below print_lines
 loop-i-init c = (omega (arith, c.put_numbered-h.ensures.1, c.put_bytes-p.ensures.1), nothing)
 
-pub decode_at-requires : goal.decode_at-requires
-decode_at-requires c = let s = c.requires.1 in (omega arith, omega arith)
-
 pub put_line-p-requires : goal.put_line-p-requires
 put_line-p-requires c =
     let s = c.requires.1 in

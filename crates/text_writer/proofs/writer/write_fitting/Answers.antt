@@ -1,23 +1,19 @@
 -- `text_writer::writer::write_fitting` meets its contract.
-use Prim.Native.Nat.{ℕ, ◌<◌, ◌≤◌}
-use mathlib.Core.Path.{◌≡◌, refl, ap, ◌∙◌}
+use Prim.Native.Nat.{ℕ, ◌≤◌}
+use mathlib.Core.Path.{◌≡◌, ap, ◌∙◌}
 use mathlib.Core.List.{List, ◌++◌}
 use native.Mathlib.Nat.{zero-add}
 use native.Mathlib.Omega.{arith}
 use lib.ListN.{length, drop}
 use lib.Seq.{sets-eq}
-use borrow.Author.Tests.{lt-ltb, le-ltb}
+use borrow.Author.Tests.{le-ltb}
 use Rattle.table.specs.Outcome.{answered}
 use Rattle.text.specs.Write.{table_text, write_text}
 use Rattle.text_writer.specs.Sink.{WriteIs, Wrote}
-use Rattle.std.specs.Prelude.{Ok, Err}
-use Rattle.text_writer.specs.declared.fault.WriteFault.TheVariants.{Sink}
+use Rattle.std.specs.Prelude.{Ok}
 use Rattle.text_writer.proofs.writer.write_fitting.Goals as goal
 
 module _ (text sink : List ℕ) (m : ℕ) (e : m ≡ length text) where
-  short : length sink < m → WriteIs (Err (Sink m)) sink (write_text text sink)
-  short k = rw (← e, lt-ltb (length sink) m k) (refl, refl)
-
   done : m ≤ length sink → (v : List ℕ) (p : ℕ) → Wrote sink 0 v p text → WriteIs (Ok p) v (write_text text sink)
   done k v p x =
       let q : p ≡ length text = x.place ∙ zero-add (length text) in
@@ -27,11 +23,6 @@ module _ (text sink : List ℕ) (m : ℕ) (e : m ≡ length text) where
         x.sink ∙ sets-eq text sink 0 (rw (zero-add (length text)) f)
             ∙ ap (λ (z : ℕ). text ++ drop z sink) (zero-add (length text)),
       )
-
-pub returns-then-sink-need : goal.returns-then-sink-need
-returns-then-sink-need c =
-    short (table_text c.args.variables c.args.n c.args.words.now) c.args.sink.now c.measure-need.result
-    c.measure-need.ensures c.if-sink-need.true
 
 pub returns : goal.returns
 returns c =

@@ -20,6 +20,6 @@ returns c =
     let p : ℕ → Bool = λ i. ltb (i + 1) n && not (get_or marked i false) in
     found-first p n c.find.result
     (first_from_Range _ _ _ _ (λ i. p i ≡ true) (λ i. p i ≡ false) c.find.ensures.ran (λ x q k. search (rules, tests))
-    (λ x q k. search (rules, tests)))
+    (λ x q k. (search rules, search (rules, tests))))
     ∙ first-ext n p (parentless c.args.words.now n)
     (λ i l. parentless-test c.args.words.now n i marked (omega arith) c.marked_children-marked.ensures)

@@ -1,3 +1,4 @@
 pub mod Rules
 pub mod Arguments
 pub mod Refusals
+pub mod Found

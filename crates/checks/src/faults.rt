@@ -30,12 +30,7 @@ pub fn first_parentless(words: &[u32], n: usize) -> Option<usize>
     ensures { result ≡ first n (parentless words.now n) }
 {
     let marked = marked_children(words, n);
-    for i in 0..n {
-        if (i + 1 < n) & !marked[i] {
-            return Some(i);
-        }
-    }
-    None
+    (0..n).find(|i| (*i + 1 < n) & !marked[*i])
 }
 
 // A variable meets itself at node i: it is under two children, or it is the decision's own and under a child.
@@ -66,12 +61,7 @@ pub fn first_undecomposable(words: &[u32], n: usize) -> Option<usize>
     ensures { result ≡ first n (undecomposable words.now) }
 {
     let supports = passes::supports(words, n);
-    for i in 0..n {
-        if is_undecomposable(words, n, i, &supports) {
-            return Some(i);
-        }
-    }
-    None
+    (0..n).find(|i| is_undecomposable(words, n, *i, &supports))
 }
 
 // Node i is a conjunction with a `false` child, or a decision with two.
@@ -94,10 +84,5 @@ pub fn first_unreduced(words: &[u32], n: usize) -> Option<usize>
     requires { Readable n words.now }
     ensures { result ≡ first n (unreduced words.now) }
 {
-    for i in 0..n {
-        if is_unreduced(words, n, i) {
-            return Some(i);
-        }
-    }
-    None
+    (0..n).find(|i| is_unreduced(words, n, *i))
 }

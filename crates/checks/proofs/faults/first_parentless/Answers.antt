@@ -1,27 +1,25 @@
-use Prim.Native.Nat.{◌<◌}
+-- `checks::faults::first_parentless` meets its contract.
+use Prim.Native.Nat.{ℕ, ◌+◌}
+use mathlib.Core.Path.{◌≡◌, ◌∙◌}
+use mathlib.Core.Bool.{Bool, true, false, ◌&&◌, not}
 use native.Mathlib.Omega.{arith}
-use Rattle.masks.proofs.Least.{search-start, search-next, first-found, first-none}
+use lib.Dec.{ltb}
+use lib.ListN.{get_or}
+use Rattle.std.proofs.Common.{rules, tests}
+use Rattle.std.proofs.lemmas.Iterator.{first_from_Range}
 use Rattle.circuits.specs.Check.{parentless}
+use Rattle.checks.proofs.Found.{found-first, first-ext}
 use Rattle.checks.proofs.Rules.{parentless-test}
 use Rattle.checks.proofs.faults.first_parentless.Goals as goal
 
-pub loop-i-init : goal.loop-i-init
-loop-i-init c = search-start _
-
-pub returns-then-i-n : goal.returns-then-i-n
-returns-then-i-n c =
-    let x = c.args in
-    let k : c.loop-i.i < 1024 = let q = c.requires.1 in omega arith in
-    first-found (parentless x.words.now x.n) x.n c.loop-i.i (omega arith) c.loop-i.invariant
-    (parentless-test x.words.now x.n c.loop-i.i c.marked_children-marked.result k c.marked_children-marked.ensures) c.if-i-n.true
-
-pub loop-i-preserved : goal.loop-i-preserved
-loop-i-preserved c =
-    let x = c.args in
-    let k : c.loop-i.i < 1024 = let q = c.requires.1 in omega arith in
-    search-next (parentless x.words.now x.n) c.loop-i.i c.loop-i.invariant
-    (parentless-test x.words.now x.n c.loop-i.i c.marked_children-marked.result k c.marked_children-marked.ensures) c.if-i-n.false
-
 pub returns : goal.returns
 returns c =
-    first-none (parentless c.args.words.now c.args.n) c.args.n c.loop-i.i (omega arith) (omega arith) c.loop-i.invariant
+    let n = c.args.n in
+    let few = c.requires.1.nodes in
+    let marked = c.marked_children-marked.result in
+    let p : ℕ → Bool = λ i. ltb (i + 1) n && not (get_or marked i false) in
+    found-first p n c.find.result
+    (first_from_Range _ _ _ _ (λ i. p i ≡ true) (λ i. p i ≡ false) c.find.ensures.ran (λ x q k. search (rules, tests))
+    (λ x q k. (search rules, search (rules, tests))))
+    ∙ first-ext n p (parentless c.args.words.now n)
+    (λ i l. parentless-test c.args.words.now n i marked (omega arith) c.marked_children-marked.ensures)

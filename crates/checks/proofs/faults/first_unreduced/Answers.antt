@@ -1,19 +1,14 @@
-use native.Mathlib.Omega.{arith}
-use Rattle.masks.proofs.Least.{search-start, search-next, first-found, first-none}
+-- `checks::faults::first_unreduced` meets its contract.
+use mathlib.Core.Path.{◌≡◌}
+use mathlib.Core.Bool.{true, false}
+use Rattle.std.proofs.Common.{rules}
+use Rattle.std.proofs.lemmas.Iterator.{first_from_Range}
 use Rattle.circuits.specs.Check.{unreduced}
+use Rattle.checks.proofs.Found.{found-first}
 use Rattle.checks.proofs.faults.first_unreduced.Goals as goal
 
-pub loop-i-init : goal.loop-i-init
-loop-i-init c = search-start _
-
-pub returns-then-is_unreduced : goal.returns-then-is_unreduced
-returns-then-is_unreduced c =
-    first-found (unreduced c.args.words.now) c.args.n c.loop-i.i (omega arith) c.loop-i.invariant c.is_unreduced.ensures
-    c.if-is_unreduced.true
-
-pub loop-i-preserved : goal.loop-i-preserved
-loop-i-preserved c =
-    search-next (unreduced c.args.words.now) c.loop-i.i c.loop-i.invariant c.is_unreduced.ensures c.if-is_unreduced.false
-
 pub returns : goal.returns
-returns c = first-none (unreduced c.args.words.now) c.args.n c.loop-i.i (omega arith) (omega arith) c.loop-i.invariant
+returns c =
+    let p = unreduced c.args.words.now in
+    found-first p c.args.n c.find.result
+    (first_from_Range _ _ _ _ (λ i. p i ≡ true) (λ i. p i ≡ false) c.find.ensures.ran (λ x q k. search rules) (λ x q k. search rules))

@@ -20,6 +20,7 @@ ghost use Rattle.walk.specs.Walk.{check_steps, settled, walk_lent};
 
 use listing::Shape;
 use lists::list::TermList;
+use partial::Status;
 use states::State;
 use steps::{Columns, MAX_STEPS};
 use table::Refusal;
@@ -144,15 +145,15 @@ fn judge_steps(
 fn settled_from(statuses: &[u32]) -> Option<usize>
     ensures { settled_step result ≡ settled statuses.now }
 {
-    let mut k = statuses.len();
-    while 0 < k {
-        if statuses[k - 1] != 2 {
+    let mut first = statuses.len();
+    for k in (0..statuses.len()).rev() {
+        if statuses[k] != Status::Satisfied as u32 {
             break;
         }
-        k -= 1;
+        first = k;
     }
-    if k < statuses.len() {
-        return Some(k);
+    if first < statuses.len() {
+        return Some(first);
     }
     None
 }

@@ -1,26 +1,17 @@
 -- `decisions::decide` meets its contract: one side, the other, and all pairs.
-use mathlib.Core.List.{List}
-use Rattle.terms.specs.Term.{terms_of}
-use Rattle.terms.specs.declared.Term.{Term}
 use Rattle.insertion.specs.Filled.{by_sign}
 use Rattle.decisions.specs.Extended.{Extending}
 use Rattle.decisions.proofs.Whole.{first, second, third, over₁, over₂, over₃, ends}
 use Rattle.decisions.proofs.decide.Goals as goal
 use Rattle.decisions.proofs.decide.Goals.{Start}
 
--- the sides, and the slices at first
-module _ (c : Start) where
-  abbrev low : List Term
-  low = terms_of c.args.ap.now c.args.an.now
-
-  abbrev high : List Term
-  high = terms_of c.args.bp.now c.args.bn.now
-
-  abbrev begun : Extending c.args.x c.args.ap.now c.args.an.now c.args.bp.now c.args.bn.now
-      (by_sign c.args.positives.now c.args.negatives.now) c.args.kept.now (record { listed = 0; kept = 0; cost = 0 })
-  begun =
-      first c.requires.decided_at (by_sign c.args.positives.now c.args.negatives.now) c.args.kept.now c.requires.negatives_len.0
-      c.requires.negatives_len.1
+-- nothing is listed at first
+begun : (c : Start) → let x = c.args in
+    Extending x.x x.ap.now x.an.now x.bp.now x.bn.now (by_sign x.positives.now x.negatives.now) x.kept.now
+    (record { listed = 0; kept = 0; cost = 0 })
+begun c =
+    let x = c.args in
+    first c.requires.decided_at (by_sign x.positives.now x.negatives.now) x.kept.now c.requires.negatives_len.0 c.requires.negatives_len.1
 
 pub list_side-requires : goal.list_side-requires
 list_side-requires c = begun (goal.at.list_side-requires c).Start

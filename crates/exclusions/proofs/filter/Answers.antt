@@ -3,7 +3,7 @@ use mathlib.Core.Path.{◌≡◌, sym, ap, ◌∙◌}
 use mathlib.Core.Bool.{Bool, true, false}
 use mathlib.Core.List.{List, ◌∷◌}
 use native.Mathlib.Omega.{arith}
-use lib.ListN.{length, drop, set, replicate, length-replicate}
+use lib.ListN.{length, drop, set, replicate}
 use Rattle.masks.proofs.Tests.{was-true, was-false, either}
 use Rattle.terms.specs.Term.{mask, terms_of}
 use Rattle.terms.specs.declared.Term.{Term}
@@ -21,9 +21,6 @@ zeros : (s : Start) (b : Bool)
     → by_sign s.args.positives.now s.args.negatives.now b ≡ replicate (length s.args.positives.now) 0
 zeros s true = s.requires.positives_value.0
 zeros s false = s.requires.positives_value.1
-
-level : (s : Start) → length s.args.negatives.now ≡ length s.args.positives.now
-level s = ap length (zeros s false) ∙ length-replicate (length s.args.positives.now) 0
 
 -- the term of a turn, which is the first of what is left
 module _ (c : After-violates) where

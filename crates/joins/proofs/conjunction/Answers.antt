@@ -1,16 +1,15 @@
 use Prim.Native.Nat.{ℕ}
-use mathlib.Core.Path.{◌≡◌, subst}
+use mathlib.Core.Path.{subst}
 use mathlib.Core.Bool.{Bool}
 use mathlib.Core.List.{List}
 use native.Mathlib.Omega.{arith}
-use lib.ListN.{length}
 use Rattle.std.specs.Prelude.{Some, None}
 use Rattle.terms.specs.Term.{terms_of}
 use Rattle.terms.specs.declared.Term.{Term}
 use Rattle.insertion.specs.Filled.{by_sign}
 use Rattle.insertion.proofs.Parts.{Even, even}
 use Rattle.joins.specs.Added.{Added}
-use Rattle.joins.proofs.Turns.{all_made, turn-length, turn_end, turn-full, turn-next, joining_all, Steps}
+use Rattle.joins.proofs.Turns.{all_made, turn_end, turn-full, turn-next, joining_all, Steps}
 use Rattle.joins.proofs.conjunction.Goals as goal
 use Rattle.joins.proofs.conjunction.Goals.{At-loop-k}
 
@@ -30,10 +29,6 @@ module _ (c : At-loop-k) where
 
   evens : Even first
   evens = even c.args.positives.now c.args.negatives.now c.requires.negatives_len
-
-  sizes : (b : Bool) → length (now b) ≡ length (first b)
-  sizes =
-      turn-length steps c.args.bp.now c.args.bn.now c.requires.an_len.1 whole first now evens c.loop-k.count c.loop-k.k c.loop-k.invariant
 
 pub loop-k-preserved : goal.loop-k-preserved
 loop-k-preserved c =

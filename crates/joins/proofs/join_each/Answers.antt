@@ -1,15 +1,14 @@
 use Prim.Native.Nat.{ℕ}
-use mathlib.Core.Path.{◌≡◌, subst}
+use mathlib.Core.Path.{subst}
 use mathlib.Core.Bool.{Bool}
 use mathlib.Core.List.{List}
 use native.Mathlib.Omega.{arith}
-use lib.ListN.{length}
 use Rattle.std.specs.Prelude.{Some, None}
 use Rattle.terms.specs.declared.Term.{Term}
 use Rattle.insertion.specs.Filled.{by_sign}
 use Rattle.insertion.proofs.Parts.{Even, even}
 use Rattle.joins.specs.Added.{Added}
-use Rattle.joins.proofs.Turns.{all_made, turn-start, turn-length, turn_end, turn-full, turn-next, joining_one, Steps}
+use Rattle.joins.proofs.Turns.{all_made, turn-start, turn_end, turn-full, turn-next, joining_one, Steps}
 use Rattle.joins.proofs.join_each.Goals as goal
 use Rattle.joins.proofs.join_each.Goals.{At-loop-k}
 
@@ -29,10 +28,6 @@ module _ (c : At-loop-k) where
 
   evens : Even first
   evens = even c.args.positives.now c.args.negatives.now c.requires.start_in_bounds.1
-
-  sizes : (b : Bool) → length (now b) ≡ length (first b)
-  sizes =
-      turn-length steps c.args.lp.now c.args.ln.now c.requires.ln_len whole first now evens c.loop-k.count c.loop-k.k c.loop-k.invariant
 
 pub loop-k-init : goal.loop-k-init
 loop-k-init c =

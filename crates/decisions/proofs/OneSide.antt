@@ -25,7 +25,7 @@ use Rattle.settling.specs.Growth.{Grew, Overflow, Keeps, Grown}
 use Rattle.settling.specs.Sides.{least_joins, KeptIn}
 use Rattle.settling.specs.declared.counts.Counts.{Counts}
 use Rattle.settling.proofs.Down.{low-in, high-in}
-use Rattle.settling.proofs.Growth.{grew_none, grew-length, grew-front, grew_then, grew-insert, over-then, over-insert}
+use Rattle.settling.proofs.Growth.{grew_none, grew-front, grew_then, grew-insert, over-then, over-insert}
 use Rattle.settling.proofs.Grows.{kept-grown}
 use Rattle.settling.proofs.KeptTerms.{kept_more}
 use Rattle.settling.proofs.Least.{place_of, low-terms, least-terms, alone}
@@ -113,9 +113,6 @@ module _ {x : ℕ} {ap an bp bn : List ℕ} {s₀ : Bool → List ℕ} {kept₀ 
       }
 
   module _ {s : Bool → List ℕ} {kept : List ℕ} {c : Counts} {k : ℕ} (h : SideDone x sign ap an bp bn s₀ c₀.listed s kept c k) where
-    pub side-length : (b : Bool) → length (s b) ≡ length (s₀ b)
-    side-length = grew-length g.growing.front h.grew
-
     pub side-extending : Extending x ap an bp bn s kept c
     side-extending =
         record {

@@ -14,7 +14,7 @@ use Rattle.terms.proofs.Built.{with-step}
 use Rattle.lists.specs.Scans.{term_at}
 use Rattle.lists.proofs.Parts.{drop-terms, drop-end}
 use Rattle.insertion.specs.Filled.{held, Filled}
-use Rattle.insertion.proofs.Again.{filled-length, filled-fits, filled-held}
+use Rattle.insertion.proofs.Again.{filled-held}
 use Rattle.insertion.proofs.Parts.{Even, filled_none}
 use Rattle.joins.specs.Added.{insert_all, Added}
 use Rattle.joins.proofs.Adding.{insert_all-append, rises, added_then, added_full}
@@ -42,12 +42,6 @@ turn-start m ps ns s ev start h r = record { holds = filled_none s ev start h; r
 
 module _ (m : Steps) (ps ns : List ℕ) (e : length ns ≡ length ps) (whole : List Term) (s₀ s : Bool → List ℕ) (ev : Even s₀)
     (count k : ℕ) (now : Turn m ps ns whole s₀ s count k) where
-  pub turn-length : (b : Bool) → length (s b) ≡ length (s₀ b)
-  turn-length = filled-length (held s count) s₀ s ev count now.holds
-
-  pub turn-fits : count ≤ length (s true)
-  turn-fits = filled-fits (held s count) s₀ s ev count now.holds
-
   -- nothing is left
   pub turn_end : length ps ≤ k → Filled whole s₀ s (Some count)
   turn_end le =

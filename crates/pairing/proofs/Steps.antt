@@ -23,7 +23,7 @@ use Rattle.settling.specs.declared.counts.Counts.{Counts}
 use Rattle.settling.proofs.Down.{low-in, high-in}
 use Rattle.pairing.specs.declared.pairs.Side.{Side}
 use Rattle.pairing.specs.declared.pairs.Turn.{Turn}
-use Rattle.settling.proofs.Growth.{grew_none, grew-length, grew-front, grew_then, over-then}
+use Rattle.settling.proofs.Growth.{grew_none, grew-front, grew_then, over-then}
 use Rattle.settling.proofs.Least.{turned, least-terms, least-turned, settled-turned, settled-more}
 
 -- ---- from fewer terms to more
@@ -127,9 +127,6 @@ module _ {ap an bp bn : List ℕ} {s₀ : Bool → List ℕ} {kept₀ : List ℕ
       }
 
   module _ {s : Bool → List ℕ} {kept : List ℕ} {t : Turn} (h : PairsDone ap an bp bn s₀ c₀.listed s kept t) where
-    pub pairs-length : (b : Bool) → length (s b) ≡ length (s₀ b)
-    pairs-length = grew-length g.front h.grew
-
     pub pairs-left : t.low.at < length ap → t.high.at < length bp → Paired ap an bp bn s kept t
     pairs-left l m =
         record {

@@ -17,7 +17,7 @@ use Rattle.insertion.specs.Filled.{held}
 use Rattle.settling.specs.Growth.{Grew, Overflow, Keeps, Growing, Grown}
 use Rattle.settling.specs.Sides.{least_joins, KeptIn, Settled, SettledFrom}
 use Rattle.settling.specs.declared.counts.Counts.{Counts}
-use Rattle.settling.proofs.Growth.{grew_none, grew-length, grew-front, grew_then, grew-insert, over-then, over-insert}
+use Rattle.settling.proofs.Growth.{grew_none, grew-front, grew_then, grew-insert, over-then, over-insert}
 use Rattle.settling.proofs.KeptTerms.{kept_in}
 use Rattle.settling.proofs.Least.{least-terms, settled-more}
 
@@ -70,9 +70,6 @@ module _ {ap an bp bn : List ℕ} {s₀ : Bool → List ℕ} {kept₀ : List ℕ
 
   module _ {t : Term} {from : ℕ} {s : Bool → List ℕ} {kept : List ℕ} {c : Counts} {j : ℕ}
       (h : SoFar ap an bp bn t from s₀ c₀.listed s kept c j) where
-    pub so-far-length : (b : Bool) → length (s b) ≡ length (s₀ b)
-    so-far-length = grew-length g.front h.grew
-
     pub so-far-growing : Growing ap an bp bn s kept c
     so-far-growing =
         record { at = g.at; front = grew-front g.front h.grew (least-terms g.at.sides); keeps = h.keeps; room = h.room }

@@ -22,28 +22,9 @@ Made c sign s' k =
     let x = c.args in
     Filled (sort (before []) (conjunction_terms sign (terms_of x.ap.now x.an.now) (terms_of x.bp.now x.bn.now))) (slices c) s' k
 
-pub conjunction-requires : goal.conjunction-requires
-conjunction-requires c = record {
-  negatives_len = c.requires.1;
-  an_len = (c.requires.0.even-low, c.requires.0.even-high);
-}
-
 pub returns-then-sign : goal.returns-then-sign
 returns-then-sign c =
     let s = (goal.at.returns-then-sign c).Start in
     let s' : Bool → List ℕ = by_sign c.conjunction.new.positives c.conjunction.new.negatives in
     subst (λ (sign : Bool). Made s sign s' c.conjunction.result) (sym c.if-sign.true)
     (subst (λ (l : List Term). Filled l (slices s) s' c.conjunction.result) (both-made c.requires.0.sides) c.conjunction.ensures)
-
-pub union-requires : goal.union-requires
-union-requires c = record {
-  negatives_len = c.requires.1;
-  an_len = (c.requires.0.even-low, c.requires.0.even-high);
-  ordered = in_order c.requires.0.sides;
-}
-
-pub returns : goal.returns
-returns c =
-    let s = (goal.at.returns c).Start in
-    subst (λ (sign : Bool). Made s sign (by_sign c.union.new.positives c.union.new.negatives) c.union.result) (sym c.if-sign.false)
-    c.union.ensures

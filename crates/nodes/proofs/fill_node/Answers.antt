@@ -27,37 +27,12 @@ this l =
     (λ (k : ℕ). Making (by_sign x.positives.now x.negatives.now) x.counts.now x.part k
     (by_sign l.loop-k.positives l.loop-k.negatives) l.loop-k.high) place l.loop-k.invariant
 
-pub overflow_sub-last : goal.overflow_sub-last
-overflow_sub-last c = omega (arith, c.places-last.ensures, c.requires.laid.1.two)
-
-pub child_at-high-requires : goal.child_at-high-requires
-child_at-high-requires c =
-    let s = (goal.at.child_at-high-requires c).Start in
-    let h = c.requires.laid in
-    let b = last-below (lent s) c.args.counts.now c.args.part h.0 h.1 in
-    let e = c.places-last.ensures in
-    record {
-      k_lt_max_children = (omega arith, h.0.words (c.places-last.result - 1));
-      counts_len_bound = (h.0.nodes, h.0.small);
-    }
-
 pub loop-k-init : goal.loop-k-init
 loop-k-init c =
     let s = (goal.at.loop-k-init c).Start in
     let h = c.requires.laid in
     making-start (lent s) c.args.counts.now c.args.part h.0 h.1 (c.places-last.result - 1) c.child_at-high.result
     (ap (λ (n : ℕ). n - 1) c.places-last.ensures) c.child_at-high.ensures.0 c.child_at-high.ensures.1
-
-pub child_at-requires : goal.child_at-requires
-child_at-requires c =
-    let s = (goal.at.child_at-requires c).Start in
-    let l = (goal.at.child_at-requires c).At-loop-k in
-    let h = c.requires.laid in
-    let few = making-few (lent s) c.args.counts.now c.args.part h.0 h.1 c.loop-k.k (now l) c.loop-k.high c.loop-k.invariant in
-    record {
-      k_lt_max_children = (omega arith, h.0.words (c.loop-k.k - 1));
-      counts_len_bound = (h.0.nodes, h.0.small);
-    }
 
 pub fill_part-requires : goal.fill_part-requires
 fill_part-requires c =
@@ -97,13 +72,3 @@ loop-k-preserved c =
     making-more (lent s) c.args.counts.now c.args.part h.0 h.1 (c.loop-k.k - 1) (now l) c.loop-k.high j c.child_at.result
     c.child_at.ensures.0 c.child_at.ensures.1 (by_sign c.fill_part.new.positives c.fill_part.new.negatives) (Some n)
     c.in_ok-count.ensures n refl
-
-pub returns : goal.returns
-returns c =
-    let s = (goal.at.returns c).Start in
-    let l = (goal.at.returns c).At-loop-k in
-    let x = c.args in
-    let h = c.requires.laid in
-    let none : c.loop-k.k ≡ 0 = omega arith in
-    making-end (lent s) x.counts.now x.part h.0 h.1 (now l) c.loop-k.high
-    (subst (λ (k : ℕ). Making (lent s) x.counts.now x.part k (now l) c.loop-k.high) none c.loop-k.invariant)

@@ -54,31 +54,6 @@ module _ (c : After-copy-4) where
   front-bn : length (take c.args.part.high.count c.copy-4.new.to) ≡ c.args.part.high.count
   front-bn = length-take-le c.args.part.high.count c.copy-4.new.to (omega arith)
 
-pub slice_bounds-make-end-4 : goal.slice_bounds-make-end-4
-slice_bounds-make-end-4 c = sym (front-ap (goal.at.slice_bounds-make-end-4 c).After-copy-4)
-
-pub slice_bounds-make-end-6 : goal.slice_bounds-make-end-6
-slice_bounds-make-end-6 c = sym (front-an (goal.at.slice_bounds-make-end-6 c).After-copy-4)
-
-pub slice_bounds-make-end-8 : goal.slice_bounds-make-end-8
-slice_bounds-make-end-8 c = sym (front-bp (goal.at.slice_bounds-make-end-8 c).After-copy-4)
-
-pub slice_bounds-make-end-10 : goal.slice_bounds-make-end-10
-slice_bounds-make-end-10 c = sym (front-bn (goal.at.slice_bounds-make-end-10 c).After-copy-4)
-
-pub make-requires : goal.make-requires
-make-requires c =
-    let s = (goal.at.make-requires c).Start in
-    let q = (goal.at.make-requires c).After-copy-4 in record {
-      given =
-          given-there c.args.part.gate c.copy.ensures c.copy-2.ensures c.copy-3.ensures c.copy-4.ensures c.requires.given;
-      negatives_len = (
-        part-size s false ∙ sym (part-size s true),
-        front-an q ∙ sym (front-ap q),
-        front-bn q ∙ sym (front-bp q),
-      );
-    }
-
 pub returns : goal.returns
 returns c =
     let s = (goal.at.returns c).Start in

@@ -12,14 +12,6 @@ pub loop-k-init : goal.loop-k-init
 loop-k-init c =
     (side-start c.requires c.args.literal.sign, omega arith)
 
-pub term_at-t-requires : goal.term_at-t-requires
-term_at-t-requires c = let h = c.requires.growing.at in omega (arith, c.loop-k-test.true, h.even-low)
-
-pub end_ahead-end-requires : goal.end_ahead-end-requires
-end_ahead-end-requires c =
-    let h = c.requires.growing.at in
-    record { negatives_len = (h.even-high, c.loop-k.invariant.1); rising = h.sides.rising-high }
-
 pub find_inside-found-requires : goal.find_inside-found-requires
 find_inside-found-requires c =
     let h = c.requires.growing.at in
@@ -47,10 +39,6 @@ list_one-requires c =
             c.find_inside-found.ensures,
       );
     }
-
-pub returns-in_err-next : goal.returns-in_err-next
-returns-in_err-next c =
-    rw c.from_residual.ensures (side-over c.requires c.args.literal.sign c.loop-k.invariant.0 c.in_err-next.ensures)
 
 pub loop-k-preserved : goal.loop-k-preserved
 loop-k-preserved c =

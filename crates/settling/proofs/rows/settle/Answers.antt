@@ -1,15 +1,12 @@
 -- `settling::rows::settle` meets its contract.
 use mathlib.Core.Path.{sym, ap₂, subst, ◌∙◌}
-use mathlib.Core.Logic.{inr}
-use mathlib.Core.List.{List, Memᴰ}
+use mathlib.Core.List.{Memᴰ}
 use Rattle.terms.specs.Joins.{joins}
 use Rattle.terms.specs.Term.{join, terms_of}
 use Rattle.terms.specs.declared.Term.{Term}
-use Rattle.lists.specs.Scans.{term_at}
-use Rattle.settling.specs.Sides.{least_joins, Covered, Settled}
 use Rattle.settling.proofs.Down.{low-in, high-in}
 use Rattle.settling.proofs.Growth.{grew_none}
-use Rattle.settling.proofs.Grows.{recounted, grown-so}
+use Rattle.settling.proofs.Grows.{recounted}
 use Rattle.settling.proofs.Least.{joined}
 use Rattle.settling.proofs.rows.settle.Goals as goal
 
@@ -28,12 +25,3 @@ add_least-requires c =
           (joined h.sides _ _ (low-in h x.pair.low c.requires.low_in_bounds.0) (high-in h x.pair.high c.requires.low_in_bounds.1)
           (c.requires.settled.1 c.if-tried.false));
     }
-
-pub returns : goal.returns
-returns c =
-    let x = c.args in
-    let least : List Term = least_joins (terms_of x.ap.now x.an.now) (terms_of x.bp.now x.bn.now) in
-    grown-so least least (λ l. Covered least l c.join-q.result)
-    (λ l. Settled least l (term_at x.ap.now x.an.now x.pair.low) (term_at x.bp.now x.bn.now x.pair.high)) _ _ _ _
-    c.add_least.result
-    (λ l d. inr (subst (Covered least l) (c.join-q.ensures ∙ ap₂ join c.term_at.ensures c.term_at-2.ensures) d)) c.add_least.ensures

@@ -10,7 +10,7 @@ use Rattle.terms.specs.Order.{before}
 use Rattle.terms.specs.Term.{terms_of}
 use Rattle.terms.specs.declared.Term.{Term}
 use Rattle.insertion.specs.Filled.{by_sign, Filled}
-use Rattle.nodes.proofs.Both.{both-made, in_order}
+use Rattle.nodes.proofs.Both.{both-made}
 use Rattle.nodes.proofs.conjoin.Goals as goal
 use Rattle.nodes.proofs.conjoin.Goals.{Start}
 

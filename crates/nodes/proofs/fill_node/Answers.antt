@@ -5,7 +5,7 @@ use mathlib.Core.List.{List}
 use native.Mathlib.Omega.{arith}
 use Rattle.std.specs.Prelude.{Some, None}
 use Rattle.insertion.specs.Filled.{by_sign}
-use Rattle.nodes.proofs.Making.{last-below, making-start, making-few, making-end, Making}
+use Rattle.nodes.proofs.Making.{making-start, Making}
 use Rattle.nodes.proofs.Making.{making-more, making-full, turn-rooms, turn-given}
 use Rattle.nodes.proofs.fill_node.Goals as goal
 use Rattle.nodes.proofs.fill_node.Goals.{Start, At-loop-k, In-loop-k}

@@ -1,17 +1,15 @@
 -- `nodes::fill_part` meets its contract.
 use Prim.Native.Nat.{ℕ, ◌+◌, ◌-◌}
-use mathlib.Core.Path.{◌≡◌, sym, ap, subst, ◌∙◌}
+use mathlib.Core.Path.{◌≡◌, ap, subst}
 use mathlib.Core.Bool.{Bool, true, false}
 use mathlib.Core.List.{List, ◌++◌}
 use native.Mathlib.Omega.{arith}
-use lib.ListN.{length, take, drop}
-use lib.Seq.{length-take-le}
+use lib.ListN.{take, drop}
 use Rattle.terms.specs.Term.{terms_of}
 use Rattle.terms.specs.declared.Term.{Term}
 use Rattle.insertion.specs.Filled.{by_sign, Filled}
-use Rattle.insertion.proofs.Parts.{Even, even}
 use Rattle.nodes.specs.Part.{gate_made, terms_from}
-use Rattle.nodes.proofs.Parts.{length_part, part_filled, given-there}
+use Rattle.nodes.proofs.Parts.{part_filled}
 use Rattle.nodes.proofs.fill_part.Goals as goal
 use Rattle.nodes.proofs.fill_part.Goals.{Start, After-copy-4}
 
@@ -31,28 +29,6 @@ module _ (c : Start) where
 
   part-is : (b : Bool) → part b ≡ take c.args.part.capacity (drop c.args.part.at (slices c b))
   part-is b = ap (λ (n : ℕ). take n (drop c.args.part.at (slices c b))) size
-
-  evens : Even (slices c)
-  evens = even c.args.positives.now c.args.negatives.now c.requires.capacity_le_max_capacity.6
-
-  part-size : (b : Bool) → length (part b) ≡ c.args.part.capacity
-  part-size b =
-      ap length (part-is b)
-      ∙ length_part c.args.part.at c.args.part.capacity (slices c b) (rw (evens b) c.requires.capacity_le_max_capacity.5)
-
--- the four copies: each scratch slice has place for the terms that were copied, and its front holds just them
-module _ (c : After-copy-4) where
-  front-ap : length (take c.args.part.low.count c.copy.new.to) ≡ c.args.part.low.count
-  front-ap = length-take-le c.args.part.low.count c.copy.new.to (omega arith)
-
-  front-an : length (take c.args.part.low.count c.copy-2.new.to) ≡ c.args.part.low.count
-  front-an = length-take-le c.args.part.low.count c.copy-2.new.to (omega arith)
-
-  front-bp : length (take c.args.part.high.count c.copy-3.new.to) ≡ c.args.part.high.count
-  front-bp = length-take-le c.args.part.high.count c.copy-3.new.to (omega arith)
-
-  front-bn : length (take c.args.part.high.count c.copy-4.new.to) ≡ c.args.part.high.count
-  front-bn = length-take-le c.args.part.high.count c.copy-4.new.to (omega arith)
 
 pub returns : goal.returns
 returns c =

@@ -25,7 +25,7 @@ use Rattle.settling.specs.Growth.{Grew, Overflow, Keeps, Grown}
 use Rattle.settling.specs.Sides.{least_joins, KeptIn}
 use Rattle.settling.specs.declared.counts.Counts.{Counts}
 use Rattle.settling.proofs.Down.{low-in, high-in}
-use Rattle.settling.proofs.Growth.{grew_none, grew-front, grew_then, grew-insert, over-then, over-insert}
+use Rattle.settling.proofs.Growth.{grew_none, grew-front, grew_then, grew-insert, over-insert}
 use Rattle.settling.proofs.Grows.{kept-grown}
 use Rattle.settling.proofs.KeptTerms.{kept_more}
 use Rattle.settling.proofs.Least.{place_of, low-terms, least-terms, alone}
@@ -143,10 +143,6 @@ module _ {x : ℕ} {ap an bp bn : List ℕ} {s₀ : Bool → List ℕ} {kept₀ 
       where
         now : ℕ → Type 0
         now i = ListsOne x sign (terms_of bp bn) (term_at ap an i) (held s' d.listed)
-
-    pub side-over : Overflow (side_terms x sign (terms_of ap an) (terms_of bp bn)) s c.listed
-        → Overflow (side_terms x sign (terms_of ap an) (terms_of bp bn)) s₀ c₀.listed
-    side-over o = over-then g.growing.front h.grew o
 
     pub side-end : length ap ≤ k
         → Grown (side_terms x sign (terms_of ap an) (terms_of bp bn)) (least_joins (terms_of ap an) (terms_of bp bn))

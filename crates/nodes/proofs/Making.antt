@@ -16,7 +16,7 @@ use Rattle.terms.specs.declared.Term.{Term}
 use Rattle.lists.specs.Capacity.{max_capacity}
 use Rattle.lists.proofs.Parts.{length-terms}
 use Rattle.insertion.specs.Filled.{masks_of}
-use Rattle.insertion.proofs.Parts.{terms-masks, length-masks, kept-count, kept_full, count_kept, full-kept}
+use Rattle.insertion.proofs.Parts.{terms-masks, length-masks, kept-count, kept_full, full-kept}
 use Rattle.nodes.specs.Part.{gate_made, PairGiven, Given, terms_from, terms_at, laid_at, places, made_from, node_made, PartFilled}
 use Rattle.nodes.specs.Part.{child_from, child_size, child_terms, NodeGiven, Laid}
 use Rattle.nodes.specs.declared.NodePart.{NodePart}
@@ -136,10 +136,6 @@ module _ (s : Bool → List ℕ) (counts : List ℕ) (p : NodePart) where
     making-long k s' high j b =
         ap length (j.over b)
         ∙ length-laid p.at p.capacity (s b) (inside b) (masks_of b j.list) (omega (arith, length-masks b j.list, j.few))
-
-    -- there is a child at each place of a turn
-    pub making-few : (k : ℕ) (s' : Bool → List ℕ) (high : Terms) → Making k s' high → k ≤ 7
-    making-few k s' high j = let h = j.some in let l = last-below in omega arith
 
     -- ---- what is made with one place more
     module _ (k : ℕ) (h : suc k < all) where
@@ -294,16 +290,3 @@ module _ (s : Bool → List ℕ) (counts : List ℕ) (p : NodePart) where
               let past : p.capacity < length (after 0) = omega arith in
               subst (λ (l : List Term). Filled l s s'' r) all_after
               (record { answer = e ∙ full-kept p.capacity (after 0) past; masks = λ h. absurd (omega arith) })
-
-    -- all are made
-    pub making-end : (s' : Bool → List ℕ) (high : Terms) → Making 0 s' high
-        → Filled (node_made p.sign p.gate p.children.count v) s s' (Some high.count)
-    making-end s' high j =
-        let t = given.two in
-        let size = j.size in
-        let room = j.room in
-        subst (λ (l : List Term). Filled l s s' (Some high.count)) all_after
-        (record {
-          answer = ap Some size ∙ count_kept p.capacity (after 0) (omega arith);
-          masks = λ h b. j.over b ∙ ap (λ (l : List Term). laid_at p.at p.capacity (masks_of b l) (s b)) (j.whole (omega arith));
-        })

@@ -1,6 +1,6 @@
 -- Parts of buffers that are filled.
 use Prim.Native.Nat.{ℕ, zero, suc, ◌+◌, ◌-◌, ◌≤◌}
-use mathlib.Core.Path.{◌≡◌, sym, ap, subst, ◌∙◌}
+use mathlib.Core.Path.{◌≡◌, sym, ap, ◌∙◌}
 use mathlib.Core.Bool.{Bool, true}
 use mathlib.Core.List.{List, [], ◌∷◌, ◌++◌, append_assoc}
 use native.Mathlib.Omega.{arith}
@@ -9,10 +9,9 @@ use lib.ListN.{length, take, drop, length-append, length-drop, take-append-drop}
 use lib.Seq.{length-take-le, take_at, drop_at, take-append_seam, drop-append-add}
 use lib.Seq.{take-take, drop-drop, take-nil}
 use Rattle.std.specs.Prelude.{Option}
-use Rattle.table.specs.declared.gates.Gate.{Gate}
 use Rattle.terms.specs.declared.Term.{Term}
 use Rattle.insertion.specs.Filled.{masks_of, laid, kept_of, Filled}
-use Rattle.nodes.specs.Part.{Given, laid_at, PartFilled}
+use Rattle.nodes.specs.Part.{laid_at, PartFilled}
 
 pub length_part : (at size : ℕ) (s : List ℕ) → at + size ≤ length s → length (take size (drop at s)) ≡ size
 length_part at size s h = length-take-le size (drop at s) (rw (length-drop at s) (omega arith))
@@ -105,11 +104,3 @@ same-before at from n s s' h e = cut s' ∙ ap (λ (z : List ℕ). take n (drop 
         (ap (λ (k : ℕ). take n (drop from (take k s))) d
         ∙ ap (take n) (drop-take from (at - from) s)
         ∙ take-take n (at - from) (drop from s) (omega arith))
-
--- what is given of terms is given of them wherever they stand
-pub given-there : (y : Gate) {l₁ l₂ l₃ l₄ m₁ m₂ m₃ m₄ : List ℕ} → m₁ ≡ l₁ → m₂ ≡ l₂ → m₃ ≡ l₃ → m₄ ≡ l₄ → Given y l₁ l₂ l₃ l₄
-    → Given y m₁ m₂ m₃ m₄
-given-there y {l₁} {l₂} {l₃} {l₄} {m₁} {m₂} {m₃} {m₄} e₁ e₂ e₃ e₄ g =
-    subst (λ (z : List ℕ). Given y z m₂ m₃ m₄) (sym e₁)
-    (subst (λ (z : List ℕ). Given y l₁ z m₃ m₄) (sym e₂)
-    (subst (λ (z : List ℕ). Given y l₁ l₂ z m₄) (sym e₃) (subst (λ (z : List ℕ). Given y l₁ l₂ l₃ z) (sym e₄) g)))

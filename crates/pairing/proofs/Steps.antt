@@ -4,26 +4,24 @@ use mathlib.Core.Path.{◌≡◌, sym, ap, subst}
 use mathlib.Core.Bool.{Bool}
 use mathlib.Core.Logic.{◌⊎◌, inl, inr, ⊎_elim, ⊎_map}
 use mathlib.Core.List.{List, Memᴰ}
-use native.Mathlib.Nat.{lt_of_lt_of_le}
 use native.Mathlib.Numerals.{add-one}
 use native.Mathlib.Omega.{arith}
 use lib.Dec.{ltb, ltb→lt, nltb→le}
 use lib.ListN.{length}
-use Rattle.std.specs.Prelude.{Some}
 use Rattle.masks.proofs.Tests.{below_suc, decide}
 use Rattle.terms.specs.Term.{terms_of}
 use Rattle.terms.specs.declared.Term.{Term}
 use Rattle.lists.specs.Capacity.{max_capacity}
 use Rattle.lists.specs.Scans.{term_at}
 use Rattle.insertion.specs.Filled.{held}
-use Rattle.settling.specs.Growth.{Grew, Overflow, Growing, Grown}
-use Rattle.settling.specs.Sides.{SidesAt, least_joins, Settled, SettledFrom, AllSettled, KeptIn, Stepped}
+use Rattle.settling.specs.Growth.{Grew, Overflow, Growing}
+use Rattle.settling.specs.Sides.{SidesAt, least_joins, Settled, SettledFrom, KeptIn, Stepped}
 use Rattle.pairing.specs.Pairs.{Paired}
 use Rattle.settling.specs.declared.counts.Counts.{Counts}
 use Rattle.settling.proofs.Down.{low-in, high-in}
 use Rattle.pairing.specs.declared.pairs.Side.{Side}
 use Rattle.pairing.specs.declared.pairs.Turn.{Turn}
-use Rattle.settling.proofs.Growth.{grew_none, grew-front, grew_then, over-then}
+use Rattle.settling.proofs.Growth.{grew_none, grew-front, grew_then}
 use Rattle.settling.proofs.Least.{turned, least-terms, least-turned, settled-turned, settled-more}
 
 -- ---- from fewer terms to more
@@ -159,19 +157,3 @@ module _ {ap an bp bn : List ℕ} {s₀ : Bool → List ℕ} {kept₀ : List ℕ
               settled-more (term_at ap an i) (term_at bp bn j) more.keeps (h.settles i j p q before))
               (λ now. now) (one.settles i j p q k);
         }
-
-    pub pairs-over : Overflow (least_joins (terms_of ap an) (terms_of bp bn)) s t.listed
-        → Overflow (least_joins (terms_of ap an) (terms_of bp bn)) s₀ c₀.listed
-    pairs-over o = over-then g.front h.grew o
-
-    pub pairs_end : (cost : ℕ) → (length ap ≤ t.low.at) ⊎ (length bp ≤ t.high.at)
-        → Grown (least_joins (terms_of ap an) (terms_of bp bn)) (least_joins (terms_of ap an) (terms_of bp bn))
-        (λ l. AllSettled (least_joins (terms_of ap an) (terms_of bp bn)) l ap an bp bn) s₀ c₀.listed s kept
-        (Some (record { listed = t.listed; kept = t.kept; cost = cost }))
-    pairs_end cost k = (
-      h.grew,
-      h.keeps,
-      h.room,
-      λ i j p q. h.settles i j p q (⊎_map (λ (e : length ap ≤ t.low.at). lt_of_lt_of_le p e)
-          (λ (e : length bp ≤ t.high.at). lt_of_lt_of_le q e) k),
-    )

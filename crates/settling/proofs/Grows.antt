@@ -14,10 +14,10 @@ use Rattle.terms.specs.declared.Term.{Term}
 use Rattle.lists.specs.Capacity.{max_capacity}
 use Rattle.lists.specs.Scans.{term_at}
 use Rattle.insertion.specs.Filled.{held}
-use Rattle.settling.specs.Growth.{Grew, Overflow, Keeps, Growing, Grown}
-use Rattle.settling.specs.Sides.{least_joins, KeptIn, Settled, SettledFrom}
+use Rattle.settling.specs.Growth.{Grew, Keeps, Growing, Grown}
+use Rattle.settling.specs.Sides.{least_joins, KeptIn, Settled}
 use Rattle.settling.specs.declared.counts.Counts.{Counts}
-use Rattle.settling.proofs.Growth.{grew_none, grew-front, grew_then, grew-insert, over-then, over-insert}
+use Rattle.settling.proofs.Growth.{grew_none, grew-front, grew_then, grew-insert, over-insert}
 use Rattle.settling.proofs.KeptTerms.{kept_in}
 use Rattle.settling.proofs.Least.{least-terms, settled-more}
 
@@ -91,12 +91,3 @@ module _ {ap an bp bn : List ℕ} {s₀ : Bool → List ℕ} {kept₀ : List ℕ
       where
         now : ℕ → Type 0
         now i = Settled (least_joins (terms_of ap an) (terms_of bp bn)) (held s' d.listed) t (term_at bp bn i)
-
-    pub so-far-over : Overflow (least_joins (terms_of ap an) (terms_of bp bn)) s c.listed
-        → Overflow (least_joins (terms_of ap an) (terms_of bp bn)) s₀ c₀.listed
-    so-far-over o = over-then g.front h.grew o
-
-    pub so-far-end : length bp ≤ j
-        → Grown (least_joins (terms_of ap an) (terms_of bp bn)) (least_joins (terms_of ap an) (terms_of bp bn))
-        (λ l. SettledFrom (least_joins (terms_of ap an) (terms_of bp bn)) l t bp bn from) s₀ c₀.listed s kept (Some c)
-    so-far-end le = (h.grew, h.keeps, h.room, λ i l m. h.done i l (lt_of_lt_of_le m le))

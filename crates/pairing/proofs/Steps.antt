@@ -66,22 +66,6 @@ Done ap an bp bn low high l i j =
     ((i < low) ⊎ (j < high)) ⊎ Settled (least_joins (terms_of ap an) (terms_of bp bn)) l (term_at ap an i) (term_at bp bn j)
 
 module _ {ap an bp bn : List ℕ} (h : SidesAt ap an bp bn) {low high : ℕ} {l : List Term} where
-  pub stepped-low : low < length ap → high ≤ length bp
-      → SettledFrom (least_joins (terms_of ap an) (terms_of bp bn)) l (term_at ap an low) bp bn high
-      → Stepped (least_joins (terms_of ap an) (terms_of bp bn)) ap an bp bn low high l (low + 1) high
-  stepped-low m n done =
-      record { one = omega arith; within_low = omega arith; within-high = n; settles = settles }
-    where
-      here : (j : ℕ) → j < length bp → Done ap an bp bn low high l low j
-      here j k =
-          ⊎_elim (λ t. inl (inr (ltb→lt j high t))) (λ t. inr (done j (nltb→le j high t) k)) (decide (ltb j high))
-
-      settles : (i j : ℕ) → i < length ap → j < length bp → (i < low + 1) ⊎ (j < high) → Done ap an bp bn low high l i j
-      settles i j p q (inl k) =
-          ⊎_elim (λ (e : i ≡ low). subst (λ (z : ℕ). Done ap an bp bn low high l z j) (sym e) (here j q)) (λ (o : i < low). inl (inl o))
-          (below_suc (rw (sym (add-one low)) k))
-      settles i j p q (inr k) = inl (inr k)
-
   pub stepped-high : low ≤ length ap → high < length bp
       → SettledFrom (least_joins (terms_of bp bn) (terms_of ap an)) l (term_at bp bn high) ap an low
       → Stepped (least_joins (terms_of ap an) (terms_of bp bn)) ap an bp bn low high l low (high + 1)

@@ -1,11 +1,10 @@
 -- Parts of lists of zeros.
-use Prim.Native.Nat.{ℕ, zero, suc, ◌+◌, ◌-◌, ◌<◌, ◌≤◌}
+use Prim.Native.Nat.{ℕ, zero, suc, ◌-◌, ◌≤◌}
 use mathlib.Core.Path.{◌≡◌, refl, ap, ◌∙◌}
-use mathlib.Core.List.{List, ◌∷◌, ◌++◌, append-nil}
+use mathlib.Core.List.{List, ◌∷◌}
 use native.Mathlib.Nat.{not-suc-le-zero, le_of_suc-le-suc}
 use native.Mathlib.Omega.{arith}
-use lib.ListN.{length, get_or, take, drop, set, replicate, drop_of_length-le}
-use borrow.Author.Fill.{fill_more}
+use lib.ListN.{get_or, take, drop, replicate}
 
 pub take-zeros : (r m : ℕ) → r ≤ m → take {A = ℕ} r (replicate m 0) ≡ replicate r 0
 take-zeros zero m h = refl
@@ -22,13 +21,3 @@ pub zero-at : (m j : ℕ) → get_or {A = ℕ} (replicate m 0) j 0 ≡ 0
 zero-at zero j = refl
 zero-at (suc m) zero = refl
 zero-at (suc m) (suc j) = zero-at m j
-
--- a store of zero
-pub zero_more : (i : ℕ) (s d : List ℕ) → i < length d → s ≡ replicate i 0 ++ drop i d → set s i 0 ≡ replicate (i + 1) 0 ++ drop (i + 1) d
-zero_more i s d h e = ap (λ (z : List ℕ). set z i 0) e ∙ fill_more i 0 d h
-
-pub zero-all : (i : ℕ) (s d : List ℕ) → length d ≤ i → i ≤ length d → s ≡ replicate i 0 ++ drop i d → s ≡ replicate (length d) 0
-zero-all i s d h k e =
-    let q : i ≡ length d = omega arith in
-    e ∙ ap (λ (z : List ℕ). replicate i 0 ++ z) (drop_of_length-le d {i = i} h) ∙ append-nil (replicate i 0)
-    ∙ ap (λ (n : ℕ). replicate n 0) q

@@ -26,7 +26,7 @@ use Rattle.settling.specs.Growth.{Grew, Overflow, Keeps, Grown}
 use Rattle.settling.specs.Sides.{least_between, KeptIn}
 use Rattle.settling.specs.declared.counts.Counts.{Counts}
 use Rattle.settling.proofs.Down.{low-in, high-in}
-use Rattle.settling.proofs.Growth.{grew_none, grew-front, grew_then, grew-insert, over-insert}
+use Rattle.settling.proofs.Growth.{grew_none, grew-length, grew-front, grew_then, grew-insert, over-then, over-insert}
 use Rattle.settling.proofs.Grows.{kept-grown}
 use Rattle.settling.proofs.KeptTerms.{kept_more}
 use Rattle.settling.proofs.Least.{place_of, low-terms, least-terms, alone}

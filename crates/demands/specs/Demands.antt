@@ -29,7 +29,6 @@ use Rattle.terms.specs.Term.{has, variables, literals, agrees, conflict, Agrees,
 use Rattle.terms.specs.declared.Term.{Term}
 use Rattle.states.specs.States.{state_at}
 use Rattle.states.specs.declared.State.{State}
-use Rattle.states.specs.declared.StateJoin.{StateJoin}
 use Rattle.weighing.specs.Weights.{max_weight}
 use Rattle.exclusions.specs.Exclusions.{first_at, second_at, Exclusions}
 use Rattle.measurements.specs.Measurement.{entries, variable_at, low_at, high_at, threshold_at, says, wrong, Measurements}
@@ -322,7 +321,7 @@ SaysLast es x s =
 -- u is the term over N variables that has each of them as the steps say last
 pub record KnownAfter (N : ℕ) (es : List Step) (u : Term) : Type 0 where
   pub is_term : IsTerm N u
-  pub each : (x : ℕ) → x < N → (s : State) × (state_at u x ≡ StateJoin.Is s) × SaysLast es x s
+  pub each : (x : ℕ) → x < N → (s : State) × (state_at u x ≡ Some s) × SaysLast es x s
 
 -- the entries of a step: v is the status of what is known, u, and c the number of prime implicants of f that do not conflict with it
 pub record StepJudged (N : ℕ) (f : ℕ → Bool) (u : Term) (v c : ℕ) : Type 0 where

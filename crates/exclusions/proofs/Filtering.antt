@@ -1,6 +1,6 @@
 -- A list filtered turn by turn: what is kept so far, in front of zeros, and what is left to test.
 use Prim.Native.Nat.{ℕ, suc, ◌+◌, ◌-◌, ◌<◌}
-use mathlib.Core.Path.{◌≡◌, sym, ap, ap₂, ◌∙◌}
+use mathlib.Core.Path.{◌≡◌, refl, sym, ap, ap₂, ◌∙◌}
 use mathlib.Core.Bool.{Bool, true, false, cond}
 use mathlib.Core.List.{List, [], ◌∷◌, ◌++◌, append-nil, map-append}
 use native.Mathlib.Omega.{arith}
@@ -21,6 +21,11 @@ pub record Filtering (e : Exclusions) (l left : List Term) (R : ℕ) (s : Bool �
   pub masks : (b : Bool) → s b ≡ masks_of b kept ++ replicate (R - count) 0
 
 module _ (e : Exclusions) (l : List Term) (R : ℕ) (s : Bool → List ℕ) where
+  pub filtering-start : ((b : Bool) → s b ≡ replicate R 0) → Filtering e l l R s 0
+  filtering-start h =
+      let n : R ≡ R - 0 = omega arith in
+      record { kept = []; whole = refl; number = refl; masks = λ b. h b ∙ ap (λ (k : ℕ). replicate k 0) n }
+
   module _ (count : ℕ) where
     pub filtering-end : {left : List Term} → left ≡ [] → Filtering e l left R s count → Filtered e l R s count
     filtering-end d f =

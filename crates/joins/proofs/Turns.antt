@@ -43,6 +43,12 @@ turn-start m ps ns s ev start h r = record { holds = filled_none s ev start h; r
 
 module _ (m : Steps) (ps ns : List ℕ) (e : length ns ≡ length ps) (whole : List Term) (s₀ s : Bool → List ℕ) (ev : Even s₀)
     (count k : ℕ) (now : Turn m ps ns whole s₀ s count k) where
+  pub turn-length : (b : Bool) → length (s b) ≡ length (s₀ b)
+  turn-length = filled-length (held s count) s₀ s ev count now.holds
+
+  pub turn-fits : count ≤ length (s true)
+  turn-fits = filled-fits (held s count) s₀ s ev count now.holds
+
   -- nothing is left
   pub turn_end : length ps ≤ k → Filled whole s₀ s (Some count)
   turn_end le =

@@ -120,6 +120,10 @@ module _ (s : Bool → List ℕ) (counts : List ℕ) (p : NodePart) where
         ap length (j.over b)
         ∙ length-laid p.at p.capacity (s b) (inside b) (masks_of b j.list) (omega (arith, length-masks b j.list, j.few))
 
+    -- there is a child at each place of a turn
+    pub making-few : (k : ℕ) (s' : Bool → List ℕ) (high : Terms) → Making k s' high → k ≤ 7
+    making-few k s' high j = let h = j.some in let l = last-below in omega arith
+
     -- ---- what is made with one place more
     module _ (k : ℕ) (h : suc k < all) where
       abbrev left : ℕ
@@ -255,3 +259,16 @@ module _ (s : Bool → List ℕ) (counts : List ℕ) (p : NodePart) where
               let past : p.capacity < length (after 0) = omega arith in
               subst (λ (l : List Term). Filled l s s'' r) all_after
               (record { answer = e ∙ full-kept p.capacity (after 0) past; masks = λ h. absurd (omega arith) })
+
+    -- all are made
+    pub making-end : (s' : Bool → List ℕ) (high : Terms) → Making 0 s' high
+        → Filled (node_made p.sign p.gate p.children.count v) s s' (Some high.count)
+    making-end s' high j =
+        let t = given.two in
+        let size = j.size in
+        let room = j.room in
+        subst (λ (l : List Term). Filled l s s' (Some high.count)) all_after
+        (record {
+          answer = ap Some size ∙ count_kept p.capacity (after 0) (omega arith);
+          masks = λ h b. j.over b ∙ ap (λ (l : List Term). laid_at p.at p.capacity (masks_of b l) (s b)) (j.whole (omega arith));
+        })

@@ -4,10 +4,12 @@ use mathlib.Core.Path.{◌≡◌, sym, subst}
 use mathlib.Core.Bool.{Bool}
 use mathlib.Core.Logic.{◌⊎◌, inl, inr, ⊎_elim, ⊎_map}
 use mathlib.Core.List.{List, Memᴰ}
+use native.Mathlib.Nat.{lt_of_lt_of_le}
 use native.Mathlib.Numerals.{add-one}
 use native.Mathlib.Omega.{arith}
 use lib.Dec.{ltb, ltb→lt, nltb→le}
 use lib.ListN.{length}
+use Rattle.std.specs.Prelude.{Some}
 use Rattle.masks.proofs.Tests.{below_suc, decide}
 use Rattle.terms.specs.declared.Term.{Term}
 use Rattle.lists.specs.List.{held, nth}
@@ -20,7 +22,7 @@ use Rattle.settling.specs.declared.counts.Counts.{Counts}
 use Rattle.settling.proofs.Down.{low-in, high-in}
 use Rattle.pairing.specs.declared.pairs.Side.{Side}
 use Rattle.pairing.specs.declared.pairs.Turn.{Turn}
-use Rattle.settling.proofs.Growth.{grew_none, grew-front, grew_then}
+use Rattle.settling.proofs.Growth.{grew_none, grew-length, grew-front, grew_then, over-then}
 use Rattle.settling.proofs.Least.{turned, least-terms, least-turned, settled-turned, settled-more}
 
 -- ---- from fewer terms to more

@@ -16,7 +16,7 @@ use Rattle.lists.specs.Capacity.{max_capacity}
 use Rattle.settling.specs.Growth.{Grew, Overflow, Keeps, Growing, Grown}
 use Rattle.settling.specs.Sides.{least_between, KeptIn, Settled, SettledFrom}
 use Rattle.settling.specs.declared.counts.Counts.{Counts}
-use Rattle.settling.proofs.Growth.{grew_none, grew-front, grew_then, grew-insert, over-insert}
+use Rattle.settling.proofs.Growth.{grew_none, grew-length, grew-front, grew_then, grew-insert, over-then, over-insert}
 use Rattle.settling.proofs.KeptTerms.{kept_in}
 use Rattle.settling.proofs.Least.{least-terms, settled-more}
 

@@ -4,7 +4,6 @@ ghost use Rattle.text.specs.Places.{HeaderRuns, ReadIs};
 ghost use Rattle.text.specs.Read.{header_at, read_text};
 
 use super::held::lines_from;
-use buffers::zero_words;
 use table::MAX_VARIABLES;
 use text::answer::{Circuit, Fault, Misread};
 use text::head::{match_at, ranged};
@@ -30,14 +29,14 @@ fn header(s: &[u8]) -> Result<(u32, usize), Misread>
 pub fn read(text: &[u8], words: &mut [u32]) -> Result<Circuit, Misread>
     ensures { ReadIs result words.new (read_text text.now (length words.old)) }
 {
-    zero_words(words);
+    words.fill(0);
     if MAX_BYTES < text.len() {
         return Err(Misread(Fault::Length, MAX_BYTES));
     }
     let (variables, at) = header(text)?;
     let reading = lines_from(text, at, words, variables);
     if reading.is_err() {
-        zero_words(words);
+        words.fill(0);
     }
     reading
 }

@@ -3,6 +3,7 @@ use mathlib.Core.Path.{refl, ◌≡◌, subst, ◌∙◌}
 use mathlib.Core.Bool.{Bool}
 use mathlib.Core.List.{List}
 use native.Mathlib.Omega.{arith}
+use lib.ListN.{length}
 use Rattle.std.specs.Prelude.{Some, None}
 use Rattle.terms.specs.declared.Term.{Term}
 use Rattle.lists.specs.List.{slots}

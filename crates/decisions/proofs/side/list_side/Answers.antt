@@ -5,7 +5,7 @@ use Rattle.terms.specs.declared.Term.{Term}
 use Rattle.subsumption.specs.Ahead.{FoundInside}
 use Rattle.settling.proofs.Down.{low-in}
 use Rattle.settling.proofs.Least.{low-terms, high-terms}
-use Rattle.decisions.proofs.OneSide.{side-start, side-extending, side-next, side-end}
+use Rattle.decisions.proofs.OneSide.{side-start, side-extending, side-next, side-over, side-end}
 use Rattle.decisions.proofs.side.list_side.Goals as goal
 
 pub loop-k-init : goal.loop-k-init

@@ -1,7 +1,7 @@
 use mathlib.Core.Path.{refl, ◌∙◌}
 use mathlib.Core.Logic.{inl, inr}
 use native.Mathlib.Omega.{arith}
-use Rattle.pairing.proofs.Steps.{pairs_start, pairs-left, pairs_next}
+use Rattle.pairing.proofs.Steps.{pairs_start, pairs-left, pairs_next, pairs-over, pairs_end}
 use Rattle.pairing.proofs.pairs.join_all.Goals as goal
 
 pub loop-turn-init : goal.loop-turn-init

@@ -7,6 +7,14 @@ use Rattle.settling.proofs.Least.{least-turned}
 use Rattle.pairing.proofs.Steps.{stepped-high, growing-turned, grew-wider, over-wider, kept-wider}
 use Rattle.pairing.proofs.pairs.step_high.Goals as goal
 
+pub slice_bounds-settle_row-end-2 : goal.slice_bounds-settle_row-end-2
+slice_bounds-settle_row-end-2 c =
+    simp length-take (omega arith)
+
+pub slice_bounds-settle_row-end-4 : goal.slice_bounds-settle_row-end-4
+slice_bounds-settle_row-end-4 c =
+    simp length-take (omega arith)
+
 pub settle_row-requires : goal.settle_row-requires
 settle_row-requires c =
     let growing = growing-turned (recounted c.requires.paired.growing c.args.turn.high.cost) in record {

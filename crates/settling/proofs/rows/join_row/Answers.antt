@@ -3,7 +3,7 @@ use native.Mathlib.Omega.{arith}
 use Rattle.terms.specs.declared.Term.{Term}
 use Rattle.lists.specs.List.{nth}
 use Rattle.settling.specs.Tries.{Tries}
-use Rattle.settling.proofs.Grows.{so-far-start, so-far-growing, so-far-next}
+use Rattle.settling.proofs.Grows.{so-far-start, so-far-growing, so-far-next, so-far-over, so-far-end}
 use Rattle.settling.proofs.Looks.{tried-settled}
 use Rattle.settling.proofs.rows.join_row.Goals as goal
 

@@ -1,6 +1,7 @@
 -- `settling::rows::settle` meets its contract.
 use mathlib.Core.Path.{sym, ap₂, subst, ◌∙◌}
-use mathlib.Core.List.{Memᴰ}
+use mathlib.Core.Logic.{inr}
+use mathlib.Core.List.{List, Memᴰ}
 use Rattle.terms.specs.Joins.{joins}
 use Rattle.terms.specs.Term.{join}
 use Rattle.terms.specs.declared.Term.{Term}
@@ -8,7 +9,7 @@ use Rattle.lists.specs.List.{nth, terms_in}
 use Rattle.settling.specs.Sides.{least_between, Covered, Settled}
 use Rattle.settling.proofs.Down.{low-in, high-in}
 use Rattle.settling.proofs.Growth.{grew_none}
-use Rattle.settling.proofs.Grows.{recounted}
+use Rattle.settling.proofs.Grows.{recounted, grown-so}
 use Rattle.settling.proofs.Least.{joined}
 use Rattle.settling.proofs.rows.settle.Goals as goal
 

@@ -3,7 +3,7 @@
 #![tactic(auto)]
 
 ghost use Rattle.std.specs.Prelude.{◌≡◌, Bool, true, not, ◌^◌, ◌<◌, ◌≤◌, length, replicate};
-ghost use Rattle.lists.specs.List.{slots, terms_in};
+ghost use Rattle.lists.specs.List.{SameLoan, slots, terms_in};
 ghost use Rattle.exclusions.specs.Exclusions.{exclusions, distinct, proper, respects, Exclusions};
 ghost use Rattle.exclusions.specs.Partners.{Folded, Filtered};
 
@@ -70,8 +70,9 @@ pub fn filter(kept: &mut TermBuffer, list: TermList, partners: &[u64], heads: u6
     requires room { (length list.positives.now ≤ length kept.old.positives.now)
         × (heads < 2 ^ length partners.now) × (length partners.now ≤ 64) }
     requires zeros { (b : Bool) → slots kept.old b ≡ replicate (length kept.old.positives.now) 0 }
-    ensures { (e : Exclusions) → Folded e (length e.firsts) partners.now heads
+    ensures filtered { (e : Exclusions) → Folded e (length e.firsts) partners.now heads
         → Filtered e (terms_in list.entry) (length kept.old.positives.now) (slots kept.new) result }
+    ensures same_loan { SameLoan kept.old kept.new }
 {
     let mut count = 0;
     for k in 0..list.len() {

@@ -64,7 +64,7 @@ module _ (m : List ℕ) (e : Exclusions) (N n : ℕ) (F : ℕ → ℕ → Bool) 
     answer_by v = cond v (refused 42 0) (answered (length (shown_primes m e N n F)))
 
     module _ (v : Bool) (t : exceeds m N n F R ≡ v) where
-      answered-by : filtered k ≡ answer_by v
+      answered-by : outcome k ≡ answer_by v
       answered-by = x.answer ∙ ap answer_by t
 
       left_by : after ≡ filtered_lent (nodes_by v) (shown_by true v ++ drop R b.positives) (shown_by false v ++ drop R b.negatives)

@@ -2,24 +2,45 @@
 // variables that exclude each other ("the shown list").
 #![tactic(auto)]
 
-ghost use Rattle.std.specs.Prelude.{◌≡◌, true, ◌≤◌, length, replicate};
+ghost use Rattle.std.specs.Prelude.{◌≡◌, true, ◌≤◌, ◌<◌, ◌^◌, length, replicate};
 ghost use Rattle.table.specs.Node.{max_variables};
 ghost use Rattle.table.specs.Outcome.{accepted};
 ghost use Rattle.weighing.specs.Weights.{fitting};
-ghost use Rattle.exclusions.specs.Exclusions.{exclusions, proper};
-ghost use Rattle.exclusions.specs.Partners.{Filtered};
+ghost use Rattle.exclusions.specs.Exclusions.{exclusions, proper, Exclusions};
+ghost use Rattle.exclusions.specs.Partners.{Folded, Filtered};
 ghost use Rattle.circuits.specs.Check.{check};
 ghost use Rattle.circuits.specs.Function.{signed_function};
-ghost use Rattle.lists.specs.List.{by_sign};
+ghost use Rattle.lists.specs.List.{by_sign, terms_in};
 ghost use Rattle.listing.specs.Listing.{lent, suffices};
 ghost use Rattle.filtered.specs.Filtered.{filtered_lent, filtered_checked, filtered_table, Gives};
 ghost use Rattle.filtered.specs.Exact.{last_terms, LastHeld, FilteredExact};
 
+use lists::list::{TermBuffer, TermList};
 use listing::Shape;
 use table::{MAX_VARIABLES, Refusal};
 
 // How many masks the pairs are folded into.
 const VARIABLES: usize = MAX_VARIABLES as usize;
+
+// Copies the terms of a list that respect the pairs, as they were folded, into two slices of zeros: how many they are.
+fn filter_in(
+    positives: &mut [u64],
+    negatives: &mut [u64],
+    list: TermList,
+    partners: &[u64],
+    heads: u64,
+) -> usize
+    requires room { (length list.positives.now ≤ length positives.old) × (heads < 2 ^ length partners.now) × (length partners.now ≤ 64) }
+    requires zeros { (positives.old ≡ replicate (length positives.old) 0) × (negatives.old ≡ replicate (length positives.old) 0) }
+    ensures { (e : Exclusions) → Folded e (length e.firsts) partners.now heads
+        → Filtered e (terms_in list.entry) (length positives.old) (by_sign positives.new negatives.new) result }
+{
+    let mut kept = TermBuffer {
+        positives,
+        negatives,
+    };
+    exclusions::filter(&mut kept, list, partners, heads)
+}
 
 // Copies the terms of the last node that respect the pairs into the shown list, of zeros before: how many they are.
 fn filter_last(
@@ -44,14 +65,11 @@ fn filter_last(
     let last = shape.nodes - 1;
     let at = last * shape.capacity;
     let end = at + counts[last] as usize;
-    exclusions::filter(
-        shown_positives,
-        shown_negatives,
-        &positives[at..end],
-        &negatives[at..end],
-        &partners,
-        heads,
-    ) as u32
+    let list = TermList {
+        positives: &positives[at..end],
+        negatives: &negatives[at..end],
+    };
+    filter_in(shown_positives, shown_negatives, list, &partners, heads) as u32
 }
 
 // Lists where nothing but 42 is left to be tested, with buffers of just the needed length for the shown list.

@@ -1,5 +1,5 @@
 use Prim.Native.Nat.{ℕ, ◌+◌}
-use mathlib.Core.Path.{◌≡◌, sym, ap, ◌∙◌}
+use mathlib.Core.Path.{refl, ◌≡◌, sym, ap, ◌∙◌}
 use mathlib.Core.Bool.{Bool, true, false}
 use mathlib.Core.List.{List, ◌∷◌}
 use native.Mathlib.Omega.{arith}
@@ -22,6 +22,7 @@ loop-k-init c =
       omega arith,
       λ e f.
           filtering-start e (terms_in x.list) (length x.kept.now.positives.now) (slots x.kept.now) c.requires.zeros,
+      (refl, refl),
     )
 
 -- the term of a turn, which is the first of what is left
@@ -58,6 +59,7 @@ loop-k-preserved c =
             filtering-keep e (list d) (length c.args.kept.now.positives.now) s l.count (own d) (first d) (l.invariant.1 e f) s'
             c.if-not-violates.count (passes d e f w.if-not-violates.true) (omega arith)
             (either (λ b. s' b ≡ set (s b) l.count (mask (own d) b)) true (ap (λ z. z.positives.now) w.kept-is) (ap (λ z. z.negatives.now) w.kept-is)) w.count-is,
+        (ap (λ z. z.positives.ghost_name) w.kept-is ∙ l.invariant.2.0, ap (λ z. z.negatives.ghost_name) w.kept-is ∙ l.invariant.2.1),
       )
       | else-not-violates w ↦ (
         omega arith,
@@ -65,11 +67,12 @@ loop-k-preserved c =
             filtering-skip e (list d) (length c.args.kept.now.positives.now) s l.count (own d) (first d) (l.invariant.1 e f) s'
             c.if-not-violates.count (fails d e f w.if-not-violates.false)
             (either (λ b. s' b ≡ s b) true (ap (λ z. z.positives.now) w.kept-is) (ap (λ z. z.negatives.now) w.kept-is)) w.count-is,
+        (ap (λ z. z.positives.ghost_name) w.kept-is ∙ l.invariant.2.0, ap (λ z. z.negatives.ghost_name) w.kept-is ∙ l.invariant.2.1),
       )
     ]
 
-pub returns : goal.returns
-returns c e f =
+pub returns-clause-filtered : goal.returns-clause-filtered
+returns-clause-filtered c e f =
     let l = c.loop-k in
     let x = c.args in
     filtering-end e (terms_in x.list) (length x.kept.now.positives.now) (slots l.kept) l.count

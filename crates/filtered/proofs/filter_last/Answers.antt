@@ -1,7 +1,7 @@
 -- `filtered::filter_last` meets its contract.
 use Prim.Native.Nat.{ℕ, pred, ◌+◌, ◌-◌, ◌*◌, ◌^◌, ◌<◌, ◌≤◌}
 use mathlib.Core.Path.{◌≡◌, refl, sym, ap, ap₂, subst, ◌∙◌}
-use mathlib.Core.Bool.{Bool, true}
+use mathlib.Core.Bool.{Bool, true, false}
 use mathlib.Core.List.{List}
 use native.Mathlib.Nat.{le_trans, le_of_eq}
 use native.Mathlib.Omega.{arith}
@@ -15,6 +15,7 @@ use Rattle.exclusions.specs.Exclusions.{exclusions, Exclusions}
 use Rattle.exclusions.specs.Partners.{respecting, Filtered}
 use Rattle.exclusions.proofs.Respects.{proper-wider}
 use Rattle.lists.specs.Capacity.{max_capacity}
+use Rattle.lists.specs.List.{by_sign}
 use Rattle.insertion.specs.Filled.{masks_of}
 use Rattle.insertion.proofs.Parts.{length-masks}
 use Rattle.listing.proofs.Last.{last-part}
@@ -112,8 +113,8 @@ pub offset_bounds-negatives-at : goal.offset_bounds-negatives-at
 offset_bounds-negatives-at c = let x = c.args in let h = c.requires.last_held.0 in
     omega (arith, ends x.shape _ _ _ h, short x.shape _ _ _ h)
 
-pub filter-requires : goal.filter-requires
-filter-requires c =
+pub filter_in-requires : goal.filter_in-requires
+filter_in-requires c =
     let x = c.args in
     let h = c.requires.last_held.0 in
     let R : ℕ = x.shape.capacity in
@@ -126,8 +127,8 @@ filter-requires c =
     let k : length f.new.partners ≡ 40 = f.auto.partners in
     let heads : f.result < 2 ^ length f.new.partners = subst (λ (k : ℕ). f.result < 2 ^ k) (sym k) f.ensures.1 in
     record {
-      ln_len = (q ∙ sym p, le_trans (le_of_eq p) (le_trans (few x.shape _ _ _ h) (le_of_eq (sym l))), heads, omega (arith, k));
-      positives_value = (c.requires.shown_positives_value.0 ∙ zeros, c.requires.shown_positives_value.1 ∙ zeros);
+      room = (le_trans (le_of_eq p) (le_trans (few x.shape _ _ _ h) (le_of_eq (sym l))), heads, omega (arith, k));
+      zeros = (c.requires.shown_positives_value.0 ∙ zeros, c.requires.shown_positives_value.1 ∙ zeros);
     }
 
 pub overflow_cast-result : goal.overflow_cast-result
@@ -136,14 +137,14 @@ overflow_cast-result c =
     let h = c.requires.last_held.0 in
     let e : Exclusions = exclusions x.firsts.now x.seconds.now in
     let l = shown-length x.shape.capacity x.shown_positives.now c.requires.shown_positives_value.0 in
-    let k = few-kept _ _ _ _ _ (is-filtered x.shape _ _ _ h e _ _ _ l (c.filter.ensures e c.fold-heads.ensures.0))
-    (c.filter.auto.positives ∙ l) in
+    let k = few-kept _ _ _ _ _ (is-filtered x.shape _ _ _ h e _ _ _ l (c.filter_in.ensures e c.fold-heads.ensures.0))
+    (c.filter_in.auto.positives ∙ l) in
     omega (arith, k, h.small)
 
 pub returns : goal.returns
 returns c =
     let x = c.args in
     let e : Exclusions = exclusions x.firsts.now x.seconds.now in
-    is-filtered x.shape _ _ _ c.requires.last_held.0 e _ _ c.filter.result
+    is-filtered x.shape _ _ _ c.requires.last_held.0 e _ _ c.filter_in.result
     (shown-length x.shape.capacity x.shown_positives.now c.requires.shown_positives_value.0)
-    (c.filter.ensures e c.fold-heads.ensures.0)
+    (c.filter_in.ensures e c.fold-heads.ensures.0)

@@ -9,7 +9,7 @@ ghost use Rattle.program.specs.Program.{program_nodes, program_capacity, program
 
 use table::{MAX_VARIABLES, Refusal};
 use table::layout::NODE_WORDS;
-use text::answer::{Fault, Reading};
+use text::answer::{Circuit, Fault, Misread};
 use text_reader::reader::read;
 
 // How many bytes the program takes: its own limit stays as it is where that of circuit texts grows.
@@ -32,12 +32,12 @@ pub const ENTRIES: usize = 4096;
 const VARIABLES: usize = MAX_VARIABLES as usize;
 
 // Reads a text that is not too long for the program; one that is leaves the words as they were.
-pub fn read_text(text: &[u8], words: &mut [u32; WORDS]) -> Reading
+pub fn read_text(text: &[u8], words: &mut [u32; WORDS]) -> Result<Circuit, Misread>
     ensures result_value { reading_of result ≡ (program_reading text.now words.old).answer }
     ensures words_after { words.new ≡ (program_reading text.now words.old).words }
 {
     if BYTES < text.len() {
-        return Reading::Refused(Fault::Length, BYTES);
+        return Err(Misread(Fault::Length, BYTES));
     }
     read(text, words)
 }

@@ -1,3 +1,1 @@
 mod Placed
-mod Settled
-mod WalkedAnswer

@@ -15,7 +15,7 @@ use text_assignment::assignment::AssignmentFault;
 use text_writer::fault::WriteFault;
 
 impl Reason for Refusal {
-    ghost reason = { λ why. reason_of {Unit {0}} (refused_by why) };
+    ghost reason = { λ why. reason_of {A = Unit {0}} (refused_by why) };
 
     fn refused(self) -> Answer {
         refused_at(number_of(self), node_of(self) as u64)

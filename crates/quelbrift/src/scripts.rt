@@ -15,7 +15,7 @@ use text_script::script::read;
 use walk::{StepFault, WalkRefusal};
 
 impl Reason for ScriptFault {
-    ghost reason = { λ why. reason_of {ℕ} (refusal_of why) };
+    ghost reason = { λ why. reason_of {A = ℕ} (refusal_of why) };
 
     fn refused(self) -> Answer {
         match self {

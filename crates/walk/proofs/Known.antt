@@ -19,7 +19,7 @@ use Rattle.terms.proofs.Terms.{empty-IsTerm}
 use Rattle.states.specs.Joining.{with_state}
 use Rattle.states.specs.States.{state_by, state_at}
 use Rattle.states.specs.declared.State.{State}
-use Rattle.states.specs.declared.StateJoin.{StateJoin}
+use Rattle.std.specs.Prelude.{Some}
 use Rattle.states.proofs.Made.{same-states, states-IsTerm, states-read}
 use Rattle.states.proofs.States.{with-here, with-there, with-IsTerm}
 use Rattle.walk.specs.Known.{act_state, state_after, known}
@@ -36,7 +36,7 @@ module _ (N : ℕ) where
   unfolding known
   known-IsTerm es = states-IsTerm (λ x. state_after x State.Absent es) N
 
-  known_read : (es : List Step) (x : ℕ) → x < N → state_at (known N es) x ≡ StateJoin.Is (state_after x State.Absent es)
+  known_read : (es : List Step) (x : ℕ) → x < N → state_at (known N es) x ≡ Some (state_after x State.Absent es)
   unfolding known
   known_read es x l = states-read (λ x. state_after x State.Absent es) N x l
 
@@ -52,19 +52,19 @@ module _ (N : ℕ) where
 
     -- the states after the step, by whether it names x
     after-step : (x : ℕ) (b : Bool) → eqb e.variable x ≡ b
-        → StateJoin.Is (cond b (act_state e.act) (state_after x State.Absent es))
-        ≡ StateJoin.Is (state_after x State.Absent (es ++ (e ∷ [])))
+        → Some (cond b (act_state e.act) (state_after x State.Absent es))
+        ≡ Some (state_after x State.Absent (es ++ (e ∷ [])))
     after-step x b d =
-        ap StateJoin.Is
+        ap Some
         (sym (state-last x State.Absent es e
         ∙ ap (λ (c : Bool). cond c (act_state e.act) (state_after x State.Absent es)) d))
 
-    named : (x : ℕ) → e.variable ≡ x → state_at next x ≡ StateJoin.Is (act_state e.act)
+    named : (x : ℕ) → e.variable ≡ x → state_at next x ≡ Some (act_state e.act)
     named x d =
-        subst (λ (y : ℕ). state_at next y ≡ StateJoin.Is (act_state e.act)) d
+        subst (λ (y : ℕ). state_at next y ≡ Some (act_state e.act)) d
         (with-here (known N es) e.variable (act_state e.act))
 
-    other : (x : ℕ) → x < N → x ≢ e.variable → state_at next x ≡ StateJoin.Is (state_after x State.Absent es)
+    other : (x : ℕ) → x < N → x ≢ e.variable → state_at next x ≡ Some (state_after x State.Absent es)
     other x l n =
         let there = with-there (known N es) e.variable x (act_state e.act) in
         ap₂ state_by (there true n) (there false n) ∙ known_read es x l

@@ -7,6 +7,8 @@ use Rattle.terms.specs.Prime.{primes}
 use Rattle.terms.specs.declared.Term.{Term}
 use Rattle.circuits.specs.Check.{check}
 use Rattle.lists.specs.Capacity.{max_capacity}
+use Rattle.lists.specs.List.{terms_in}
+use Rattle.lists.specs.declared.list.TermList.{TermList}
 use Rattle.insertion.specs.Filled.{masks_of}
 use Rattle.queries.specs.Queries.{circuit}
 use Rattle.listing.specs.Listing.{Lent}
@@ -23,13 +25,12 @@ pub record StepsReady (h : Plan) (w : List ℕ) (k c : ℕ) : Type 0 where
 abbrev pub plan_primes : List ℕ → Plan → List ℕ → List Term
 plan_primes m h w = primes m h.variables (circuit h.nodes w)
 
--- ps and ns are their masks, in order by some weights
-pub record JudgeReady (h : Plan) (w ps ns : List ℕ) (k c : ℕ) : Type 0 where
+-- the list has them, in order by some weights
+pub record JudgeReady (h : Plan) (w : List ℕ) (list : TermList) (k c : ℕ) : Type 0 where
   pub steps : StepsReady h w k c
   pub weights : List ℕ
-  pub positives : ps ≡ masks_of true (plan_primes weights h w)
-  pub negatives : ns ≡ masks_of false (plan_primes weights h w)
-  pub few : length ps ≤ max_capacity
+  pub terms : terms_in list ≡ plan_primes weights h w
+  pub few : length list.positives.now ≤ max_capacity
 
 -- they stand in the last node's part of the buffers b of a listing with room for R a node
 pub record WalkReady (h : Plan) (w : List ℕ) (b : Lent) (R k c : ℕ) : Type 0 where

@@ -6,9 +6,10 @@ ghost use Rattle.table.specs.Outcome.{accepted};
 ghost use Rattle.steps.specs.Steps.{steps_in};
 ghost use Rattle.terms.specs.Completions.{status};
 ghost use Rattle.terms.specs.Lists.{keep};
-ghost use Rattle.terms.specs.Term.{is_term, conflict, terms_of};
+ghost use Rattle.terms.specs.Term.{is_term, conflict};
 ghost use Rattle.circuits.specs.Check.{check};
 ghost use Rattle.lists.specs.Capacity.{max_capacity};
+ghost use Rattle.lists.specs.List.{terms_in};
 ghost use Rattle.queries.specs.Queries.{circuit};
 ghost use Rattle.listing.specs.Listing.{lent};
 ghost use Rattle.walk.specs.Answers.{steps_outcome, settled_step, WalkResult};
@@ -18,6 +19,8 @@ ghost use Rattle.walk.specs.declared.WalkRefusal.TheVariants.{Step, Table};
 ghost use Rattle.walk.specs.Walk.{check_steps, settled, walk_lent};
 
 use listing::Shape;
+use lists::list::TermList;
+use partial::Status;
 use states::State;
 use steps::{Columns, MAX_STEPS};
 use table::Refusal;
@@ -96,14 +99,13 @@ fn status_under(words: &[u32], variables: u32, n: usize, t: Term) -> u32
 }
 
 // How many of the terms do not conflict with t.
-fn count_compatible(positives: &[u64], negatives: &[u64], t: Term) -> u32
-    requires { (length positives.now ≤ max_capacity) × (length negatives.now ≡ length positives.now) }
-    ensures { result ≡ length (keep (λ u. not (conflict u t)) (terms_of positives.now negatives.now)) }
+fn count_compatible(list: TermList, t: Term) -> u32
+    requires { length list.positives.now ≤ max_capacity }
+    ensures { result ≡ length (keep (λ u. not (conflict u t)) (terms_in list.entry)) }
 {
     let mut found: u32 = 0;
-    for k in 0..positives.len() {
-        let u = lists::term_at(positives, negatives, k);
-        if !terms::conflict(u, t) {
+    for k in 0..list.len() {
+        if !terms::conflict(list.at(k), t) {
             found += 1;
         }
     }
@@ -124,11 +126,10 @@ fn judge_steps(
     statuses: &mut [u32],
     compatibles: &mut [u32],
     words: &[u32],
-    positives: &[u64],
-    negatives: &[u64],
+    list: TermList,
     plan: Plan,
 )
-    requires { JudgeReady plan words.now positives.now negatives.now (length statuses.old) (length compatibles.old) }
+    requires { JudgeReady plan words.now list (length statuses.old) (length compatibles.old) }
     ensures { Judged plan words.now (length statuses.old) statuses.new compatibles.new }
 {
     let columns = plan.columns;
@@ -136,7 +137,7 @@ fn judge_steps(
     for i in 0..statuses.len() {
         known = states::with_state(known, columns.variables[i], act_state(columns.acts[i]));
         statuses[i] = status_under(words, plan.variables, plan.nodes, known);
-        compatibles[i] = count_compatible(positives, negatives, known);
+        compatibles[i] = count_compatible(list, known);
     }
 }
 
@@ -144,15 +145,15 @@ fn judge_steps(
 fn settled_from(statuses: &[u32]) -> Option<usize>
     ensures { settled_step result ≡ settled statuses.now }
 {
-    let mut k = statuses.len();
-    while 0 < k {
-        if statuses[k - 1] != 2 {
+    let mut first = statuses.len();
+    for k in (0..statuses.len()).rev() {
+        if statuses[k] != Status::Satisfied as u32 {
             break;
         }
-        k -= 1;
+        first = k;
     }
-    if k < statuses.len() {
-        return Some(k);
+    if first < statuses.len() {
+        return Some(first);
     }
     None
 }
@@ -176,14 +177,11 @@ fn walk_listed(
     let last = plan.nodes - 1;
     let start = last * capacity;
     let end = start + counts[last] as usize;
-    judge_steps(
-        statuses,
-        compatibles,
-        words,
-        &positives[start..end],
-        &negatives[start..end],
-        plan,
-    );
+    let list = TermList {
+        positives: &positives[start..end],
+        negatives: &negatives[start..end],
+    };
+    judge_steps(statuses, compatibles, words, list, plan);
     settled_from(statuses)
 }
 

@@ -1,12 +1,10 @@
 use Prim.Native.Nat.{◌+◌}
-use mathlib.Core.Path.{◌≡◌, sym, ap, ◌∙◌}
+use mathlib.Core.Path.{◌≡◌, refl, sym, ap, ◌∙◌}
 use mathlib.Core.Bool.{Bool, true, false, not}
 use native.Mathlib.Omega.{arith}
 use Rattle.masks.specs.Numbers.{digit}
 use Rattle.walk.proofs.Compatible.{kept_from, kept_next, kept-end}
 use Rattle.walk.proofs.count_compatible.Invariants.{free}
-use mathlib.Core.Path.{refl}
-use mathlib.Core.Bool.{true, false}
 use Rattle.walk.proofs.count_compatible.Goals as goal
 use Rattle.walk.proofs.count_compatible.Goals.{then-not-conflict, else-not-conflict}
 
@@ -15,10 +13,10 @@ loop-k-preserved c =
     let x = c.args in
     let k = c.loop-k.k in
     -- the number from term k on, by what the test said of it
-    let counted : (b : Bool) → c.conflict.result ≡ not b → kept_from (free x.t) x.positives.now x.negatives.now k
-    ≡ digit b + kept_from (free x.t) x.positives.now x.negatives.now (k + 1) =
-    λ b e. kept_next (free x.t) x.positives.now x.negatives.now c.requires.1 k b (omega arith)
-    (ap (free x.t) (sym c.term_at-u.ensures) ∙ sym (ap not c.conflict.ensures) ∙ ap not e ∙ not-not b) in
+    let counted : (b : Bool) → c.conflict.result ≡ not b
+    → kept_from (free x.t) x.list k ≡ digit b + kept_from (free x.t) x.list (k + 1) =
+    λ b e. kept_next (free x.t) x.list k b (omega (arith, c.loop-k-test.true))
+    (ap (free x.t) (sym c.at.ensures) ∙ sym (ap not c.conflict.ensures) ∙ ap not e ∙ not-not b) in
     elim c.if-not-conflict.branch [
       | then-not-conflict w ↦ let n = counted true w.if-not-conflict.true in
           (omega arith, omega arith, omega (arith, n, c.loop-k.invariant.2))
@@ -32,8 +30,5 @@ loop-k-preserved c =
 
 pub returns : goal.returns
 returns c =
-    let a = c.before in
-    let s = a.before.before.before in
-    let x = s.args in
-    let e = kept-end (free x.t) x.positives.now x.negatives.now s.requires.1 a.loop-k.k (omega arith) in
-    omega (arith, a.loop-k.invariant.2, e)
+    let e = kept-end (free c.args.t) c.args.list c.loop-k.k (omega (arith, c.loop-k-test.false)) in
+    omega (arith, c.loop-k.invariant.2, e)

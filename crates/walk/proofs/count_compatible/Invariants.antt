@@ -1,5 +1,5 @@
 -- `walk::count_compatible` meets its contract. The loop's invariant: with the terms that are left, the number is the whole.
-use Prim.Native.Nat.{◌+◌, ◌-◌, ◌≤◌}
+use Prim.Native.Nat.{◌+◌, ◌≤◌}
 use mathlib.Core.Path.{◌≡◌}
 use mathlib.Core.Bool.{Bool, not}
 use lib.ListN.{length}
@@ -14,8 +14,5 @@ free t u = not (conflict u t)
 
 abbrev pub invariant-loop-k : goal.invariant-loop-k
 invariant-loop-k l =
-    (l.k ≤ length l.positives) × (l.found ≤ l.k)
-    × (l.found + kept_from (free l.t) l.positives l.negatives l.k ≡ kept_from (free l.t) l.positives l.negatives 0)
-
-abbrev pub decreases-loop-k : goal.decreases-loop-k
-decreases-loop-k l = length l.positives - l.k
+    (l.k ≤ length l.list.positives.now) × (l.found ≤ l.k)
+    × (l.found + kept_from (free l.t) l.list l.k ≡ kept_from (free l.t) l.list 0)

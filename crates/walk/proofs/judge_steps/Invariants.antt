@@ -1,5 +1,5 @@
 -- `walk::judge_steps` meets its contract. The loop's invariant: what is known is that of the first i steps, and their entries are written.
-use Prim.Native.Nat.{ℕ, ◌-◌, ◌≤◌}
+use Prim.Native.Nat.{ℕ, ◌≤◌}
 use mathlib.Core.Path.{◌≡◌}
 use mathlib.Core.Bool.{Bool}
 use lib.ListN.{length}
@@ -18,6 +18,3 @@ invariant-loop-i l =
     (l.i ≤ length l.initial.statuses) × (l.known ≡ known N (steps_in l.columns l.i))
     × Written N (status N f) l.columns l.initial.statuses l.i l.statuses
     × Written N (compatible N f) l.columns l.initial.compatibles l.i l.compatibles
-
-abbrev pub decreases-loop-i : goal.decreases-loop-i
-decreases-loop-i l = length l.initial.statuses - l.i

@@ -7,7 +7,4 @@ use Rattle.walk.specs.Walk.{allowed_from}
 use Rattle.walk.proofs.settled_from.Given as goal
 
 abbrev pub invariant-loop-k : goal.invariant-loop-k
-invariant-loop-k l = (l.k ≤ length l.statuses) × (allowed_from l.statuses l.k ≡ true)
-
-abbrev pub decreases-loop-k : goal.decreases-loop-k
-decreases-loop-k l = l.k
+invariant-loop-k l = (l.first ≡ l.k) × (l.k ≤ length l.statuses) × (allowed_from l.statuses l.k ≡ true)

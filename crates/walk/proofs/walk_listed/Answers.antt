@@ -1,6 +1,6 @@
 -- `walk::walk_listed` meets its contract.
 use Prim.Native.Nat.{ℕ, pred, ◌+◌, ◌-◌, ◌*◌, ◌≤◌}
-use mathlib.Core.Path.{◌≡◌, ap, ◌∙◌}
+use mathlib.Core.Path.{◌≡◌, ap, ap₂, ◌∙◌}
 use mathlib.Core.Bool.{true, false}
 use mathlib.Core.List.{List}
 use native.Mathlib.Nat.{le_trans, le_of_eq}
@@ -8,27 +8,16 @@ use native.Mathlib.Omega.{arith}
 use lib.ListN.{length, get_or, take, drop}
 use Rattle.masks.proofs.Numbers.{product_le}
 use Rattle.table.specs.Node.{max_nodes}
+use Rattle.terms.specs.Term.{terms_of}
 use Rattle.terms.specs.declared.Term.{Term}
 use Rattle.circuits.proofs.Accepted.{accepted-e, nodes-some, nodes-le, Accepted}
 use Rattle.lists.specs.Capacity.{max_capacity}
 use Rattle.insertion.specs.Filled.{masks_of}
-use Rattle.insertion.proofs.Parts.{length-masks}
+use Rattle.insertion.proofs.Parts.{length-masks, terms-masks}
 use Rattle.listing.proofs.Last.{last-part}
 use Rattle.walk.specs.Ready.{plan_primes}
 use Rattle.walk.proofs.walk_listed.Goals as goal
-use Rattle.walk.proofs.walk_listed.Lts as lts
-use Rattle.walk.proofs.walk_listed.Reads as reads
-use Rattle.walk.proofs.walk_listed.Tie as tie
-
--- places of the code
-abbrev After-struct_known : Type 0
-After-struct_known = lts.After-struct_known tie.the-claims reads.Pre reads.Post tie.handed_clauses
-
-abbrev Start : Type 0
-Start = lts.Start tie.the-claims reads.Pre reads.Post tie.handed_clauses
-
-abbrev start : After-struct_known → Start
-start p = p.before.before.before.before.before.before.before
+use Rattle.walk.proofs.walk_listed.Goals.{Start}
 
 module _ (s : Start) where
   abbrev n : ℕ
@@ -37,7 +26,7 @@ module _ (s : Start) where
   abbrev R : ℕ
   R = s.args.capacity
 
-  -- the prime implicants of the circuit, and where they start
+  -- the prime implicants of the circuit, where they start, and how many they are
   abbrev rows : List Term
   rows = plan_primes s.requires.weights s.args.plan s.args.words.now
 
@@ -76,43 +65,29 @@ module _ (s : Start) where
       ap (λ (m : ℕ). take m (drop from old)) (d ∙ counted) ∙ ap (λ (m : ℕ). take (length rows) (drop (m * R) old)) last ∙ e
 
 pub overflow_sub-last : goal.overflow_sub-last
-overflow_sub-last c = some (start c.before)
+overflow_sub-last c = some (goal.at.overflow_sub-last c).Start
 
 pub overflow_mul-start : goal.overflow_mul-start
-overflow_mul-start c = omega (arith, ends (start c.before), short (start c.before))
+overflow_mul-start c = let s = (goal.at.overflow_mul-start c).Start in omega (arith, ends s, short s)
 
 pub bounds-counts-last : goal.bounds-counts-last
-bounds-counts-last c = omega (arith, some (start c.before.before), (start c.before.before).requires.rows)
-
-pub overflow_cast-end : goal.overflow_cast-end
-overflow_cast-end c = let s = start c.before.before in omega (arith, few s, s.requires.small)
+bounds-counts-last c = omega (arith, some (goal.at.bounds-counts-last c).Start, c.requires.rows)
 
 pub overflow_add-end : goal.overflow_add-end
-overflow_add-end c = let s = start c.before.before in omega (arith, few s, ends s, short s)
+overflow_add-end c = let s = (goal.at.overflow_add-end c).Start in omega (arith, few s, ends s, short s)
 
-pub offset_bounds-positives-start : goal.offset_bounds-positives-start
-offset_bounds-positives-start c = let s = start c.before.before.before.before in omega (arith, ends s, short s)
-
-pub offset_bounds-negatives-start : goal.offset_bounds-negatives-start
-offset_bounds-negatives-start c = let s = start c.before.before.before.before.before in omega (arith, ends s, short s)
-
-pub slice_bounds-judge_steps-end : goal.slice_bounds-judge_steps-end
-slice_bounds-judge_steps-end c = let s = start c.before.before.before.before in omega (arith, few s, ends s, s.requires.rows)
-
-pub slice_bounds-judge_steps-end-2 : goal.slice_bounds-judge_steps-end-2
-slice_bounds-judge_steps-end-2 c = let s = start c.before.before.before.before.before in omega (arith, few s, ends s, s.requires.rows)
+pub slice_bounds-list-end : goal.slice_bounds-list-end
+slice_bounds-list-end c = let s = (goal.at.slice_bounds-list-end c).Start in omega (arith, few s, ends s, s.requires.rows)
 
 pub judge_steps-requires : goal.judge_steps-requires
 judge_steps-requires c =
-    let s = start c.before.before.before.before.before.before in
+    let s = (goal.at.judge_steps-requires c).Start in
     let l : List Term = rows s in
-    let p = lent-part s s.args.positives.now (masks_of true l) s.requires.positives in
-    let few : length l ≤ R s = s.requires.few in
-    let small : R s ≤ max_capacity = s.requires.small in
+    let p = lent-part s c.args.positives.now (masks_of true l) c.requires.positives in
+    let q = lent-part s c.args.negatives.now (masks_of false l) c.requires.negatives in
     record {
-      steps = s.requires.steps;
-      weights = s.requires.weights;
-      positives = p;
-      negatives = lent-part s s.args.negatives.now (masks_of false l) s.requires.negatives;
-      few = le_trans (le_of_eq (ap length p ∙ length-masks true l)) (le_trans few small);
+      steps = c.requires.steps;
+      weights = c.requires.weights;
+      terms = ap₂ terms_of p q ∙ terms-masks l;
+      few = le_trans (le_of_eq (ap length p ∙ length-masks true l)) (le_trans c.requires.few c.requires.small);
     }

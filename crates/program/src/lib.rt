@@ -7,8 +7,8 @@ ghost use Rattle.text.specs.Answers.{reading_of};
 ghost use Rattle.listing.specs.Listing.{lent, suffices};
 ghost use Rattle.program.specs.Program.{program_nodes, program_capacity, program_reading, program_listing};
 
-use table::{MAX_VARIABLES, Refusal};
 use table::layout::NODE_WORDS;
+use table::{MAX_VARIABLES, Refusal};
 use text::answer::{Circuit, Fault, Misread};
 use text_reader::reader::read;
 
@@ -46,11 +46,7 @@ pub fn read_text(text: &[u8], words: &mut [u32; WORDS]) -> Result<Circuit, Misre
 fn front(entries: &[u32], count: u32) -> &[u32]
     ensures { result.now ≡ take count entries.now }
 {
-    let n = count as usize;
-    if n < entries.len() {
-        return &entries[..n];
-    }
-    entries
+    &entries[..entries.len().min(count as usize)]
 }
 
 // Lists the circuit, every variable weighing nothing and no two excluding each other, in buffers that are large enough for all nodes. The

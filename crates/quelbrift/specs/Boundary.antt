@@ -2,7 +2,6 @@
 use Rattle.std.specs.Prelude.{ℕ, ◌*◌, Bool, cond, List, eqb, length, Result, Ok, Err}
 use Rattle.table.specs.Outcome.{Outcome, answered, refused}
 use Rattle.terms.specs.declared.Term.{Term}
-use Rattle.text.specs.declared.answer.Circuit.{Circuit}
 use Rattle.quelbrift.specs.declared.answer.Answer.{Answer}
 
 -- raised whenever an exported function or an answer changes
@@ -48,9 +47,6 @@ truth b = (cond b 1 0, (0, 0))
 
 abbrev pub masks : Term → ℕ × (ℕ × ℕ)
 masks t = (t.positive, (t.negative, 0))
-
-abbrev pub sizes : Circuit → ℕ × (ℕ × ℕ)
-sizes c = (c.variables, (c.nodes, 0))
 
 -- the offset of a part of node i in a buffer of capacity R, and its length; the empty part stands at 0
 abbrev pub placed : ℕ → ℕ → List ℕ → ℕ × (ℕ × ℕ)

@@ -1,12 +1,12 @@
 // Loading scripts: their steps are a list of records, of which the code below takes plain columns.
 ghost use Rattle.std.specs.Prelude.{◌≡◌};
 ghost use Rattle.std.specs.Prelude.{Err};
-ghost use Rattle.text_script.specs.Faults.{refusal_of};
+ghost use Rattle.text_script.specs.Answers.{script_outcome};
 ghost use Rattle.text_script.specs.Script.{read_script};
 ghost use Rattle.listing.specs.Listing.{lent};
 ghost use Rattle.walk.specs.Answers.{settled_step, walked_outcome};
 ghost use Rattle.walk.specs.Walk.{walk_table, walk_lent};
-ghost use Rattle.quelbrift.specs.Boundary.{answer_of, number, numbers, reason_of, settling};
+ghost use Rattle.quelbrift.specs.Boundary.{answer_of, number, numbers, reason_of};
 
 use super::answer::{Answer, Reason, Values, answer_to, done_with, refused_at};
 use steps::Step;
@@ -15,7 +15,7 @@ use text_script::script::read;
 use walk::{StepFault, WalkRefusal};
 
 impl Reason for ScriptFault {
-    ghost reason = { λ why. reason_of {A = ℕ} (refusal_of why) };
+    ghost reason = { λ why. reason_of (script_outcome (Err why)) };
 
     fn refused(self) -> Answer {
         match self {
@@ -42,7 +42,7 @@ pub fn quelbrift_read_script<'a, 'b>(text: &'a [u8], variables: u32, list: &'b m
 
 // 1 and the step from which on every status is satisfied, or 0 and 0.
 impl Values for Option<usize> {
-    ghost values = { settling };
+    ghost values = { λ step. numbers (settled_step step) };
 
     fn done(self) -> Answer {
         match self {

@@ -1,6 +1,6 @@
 // What each operation answers when its work is done, in values.
 ghost use Rattle.partial.specs.Answers.{judged};
-ghost use Rattle.quelbrift.specs.Boundary.{nothing, number, truth, masks, sizes};
+ghost use Rattle.quelbrift.specs.Boundary.{nothing, number, numbers, truth, masks};
 
 use super::answer::{Answer, Values, done_with};
 use partial::{Judgement, status_number};
@@ -59,7 +59,7 @@ impl Values for Term {
 
 // The numbers of variables and of nodes.
 impl Values for Circuit {
-    ghost values = { sizes };
+    ghost values = { λ circuit. numbers (circuit.variables, circuit.nodes) };
 
     fn done(self) -> Answer {
         done_with(self.variables as u64, self.nodes as u64, 0)

@@ -18,7 +18,7 @@ use Rattle.exclusions.specs.Exclusions.{exclusions}
 use Rattle.circuits.specs.Check.{check, rules}
 use Rattle.circuits.specs.Function.{function}
 use Rattle.listing.specs.Listing.{lent, suffices, Lent}
-use Rattle.filtered.specs.Filtered.{filtered_lent, filtered_checked, filtered_table, filtered, Gives, FilteredLent, FilteredOut}
+use Rattle.filtered.specs.Filtered.{filtered_lent, filtered_checked, filtered_table, Gives, FilteredLent, FilteredOut}
 use Rattle.std.specs.Prelude.{Result}
 use Rattle.table.specs.Outcome.{outcome}
 use Rattle.table.specs.declared.Refusal.{Refusal}

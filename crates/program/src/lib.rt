@@ -7,9 +7,9 @@ ghost use Rattle.text.specs.Answers.{reading_of};
 ghost use Rattle.listing.specs.Listing.{lent, suffices};
 ghost use Rattle.program.specs.Program.{program_nodes, program_capacity, program_reading, program_listing};
 
-use table::{MAX_VARIABLES, Refusal};
 use table::layout::NODE_WORDS;
-use text::answer::{Fault, Reading};
+use table::{MAX_VARIABLES, Refusal};
+use text::answer::{Circuit, Fault, Misread};
 use text_reader::reader::read;
 
 // How many bytes the program takes: its own limit stays as it is where that of circuit texts grows.
@@ -32,12 +32,12 @@ pub const ENTRIES: usize = 4096;
 const VARIABLES: usize = MAX_VARIABLES as usize;
 
 // Reads a text that is not too long for the program; one that is leaves the words as they were.
-pub fn read_text(text: &[u8], words: &mut [u32; WORDS]) -> Reading
+pub fn read_text(text: &[u8], words: &mut [u32; WORDS]) -> Result<Circuit, Misread>
     ensures result_value { reading_of result ≡ (program_reading text.now words.old).answer }
     ensures words_after { words.new ≡ (program_reading text.now words.old).words }
 {
     if BYTES < text.len() {
-        return Reading::Refused(Fault::Length, BYTES);
+        return Err(Misread(Fault::Length, BYTES));
     }
     read(text, words)
 }
@@ -46,11 +46,7 @@ pub fn read_text(text: &[u8], words: &mut [u32; WORDS]) -> Reading
 fn front(entries: &[u32], count: u32) -> &[u32]
     ensures { result.now ≡ take count entries.now }
 {
-    let n = count as usize;
-    if n < entries.len() {
-        return &entries[..n];
-    }
-    entries
+    &entries[..entries.len().min(count as usize)]
 }
 
 // Lists the circuit, every variable weighing nothing and no two excluding each other, in buffers that are large enough for all nodes. The

@@ -1,3 +1,2 @@
 mod Placed
-mod Settled
-mod WalkedAnswer
+mod ScriptAnswers

@@ -1,5 +1,5 @@
 -- The answers at the boundary to C: numbers only.
-use Rattle.std.specs.Prelude.{ℕ, ◌*◌, Bool, cond, List, eqb, length}
+use Rattle.std.specs.Prelude.{ℕ, ◌*◌, Bool, cond, List, eqb, length, Result, Ok, Err}
 use Rattle.table.specs.Outcome.{Outcome, answered, refused}
 use Rattle.terms.specs.declared.Term.{Term}
 use Rattle.quelbrift.specs.declared.answer.Answer.{Answer}
@@ -18,6 +18,16 @@ refused_at number place = record { number = number; place = place; first = 0; se
 abbrev pub answer_of : {A : Type 0} → (A → ℕ × (ℕ × ℕ)) → Outcome A → Answer
 answer_of values (answered a) = done_with (values a).0 (values a).1.0 (values a).1.1
 answer_of values (refused k p) = refused_at k p
+
+-- the same of what the code answers, where a reason gives the number and the place
+abbrev pub answer_by : {A E : Type 0} → (A → ℕ × (ℕ × ℕ)) → (E → ℕ × ℕ) → Result A E → Answer
+answer_by values reason (Ok a) = done_with (values a).0 (values a).1.0 (values a).1.1
+answer_by values reason (Err e) = refused_at (reason e).0 (reason e).1
+
+-- the number and the place of a refusal
+abbrev pub reason_of : {A : Type 0} → Outcome A → ℕ × ℕ
+reason_of (answered a) = (0, 0)
+reason_of (refused k p) = (k, p)
 
 -- ---- the three values of each kind of answer; one that is not there is 0
 abbrev pub nothing : Unit {0} → ℕ × (ℕ × ℕ)

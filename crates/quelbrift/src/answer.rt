@@ -1,9 +1,6 @@
 // The answer of every exported function, in numbers.
-ghost use Rattle.std.specs.Prelude.{◌≡◌, cond};
-ghost use Rattle.table.specs.Outcome.{number_of, node_of};
-ghost use Rattle.quelbrift.specs.Boundary.{done_with, refused_at};
-
-use table::{Refusal, node_of, number_of};
+ghost use Rattle.std.specs.Prelude.{◌≡◌, ℕ};
+ghost use Rattle.quelbrift.specs.Boundary.{answer_by, done_with, refused_at};
 
 // 0, or the scope's number of a refusal with its place, node or needed length; and up to three values.
 #[repr(C)]
@@ -17,7 +14,7 @@ pub struct Answer {
 }
 
 // The work is done: three values.
-pub fn done_three(first: u64, second: u64, third: u64) -> Answer
+pub fn done_with(first: u64, second: u64, third: u64) -> Answer
     ensures { result ≡ done_with first second third }
 {
     Answer {
@@ -29,22 +26,8 @@ pub fn done_three(first: u64, second: u64, third: u64) -> Answer
     }
 }
 
-// The work is done: up to two values.
-pub fn done(first: u64, second: u64) -> Answer
-    ensures { result ≡ done_with first second 0 }
-{
-    done_three(first, second, 0)
-}
-
-// The work is done: 1 for yes, 0 for no.
-pub fn done_truth(b: bool) -> Answer
-    ensures { result ≡ done_with (cond b 1 0) 0 0 }
-{
-    done(b as u64, 0)
-}
-
 // A refusal: no values.
-pub fn refused(number: u32, place: u64) -> Answer
+pub fn refused_at(number: u32, place: u64) -> Answer
     ensures { result ≡ refused_at number place }
 {
     Answer {
@@ -56,9 +39,28 @@ pub fn refused(number: u32, place: u64) -> Answer
     }
 }
 
-// The refusal of a table.
-pub fn refused_by(why: Refusal) -> Answer
-    ensures { result ≡ refused_at (number_of why) (node_of why) }
+// What an operation answers when its work is done: up to three values.
+pub trait Values {
+    ghost values: { Self → ℕ × (ℕ × ℕ) };
+
+    fn done(self) -> Answer
+        ensures { result ≡ done_with (values self).0 (values self).1.0 (values self).1.1 };
+}
+
+// Why an operation is refused: the scope's number, with the place, node or needed length.
+pub trait Reason {
+    ghost reason: { Self → ℕ × ℕ };
+
+    fn refused(self) -> Answer
+        ensures { result ≡ refused_at (reason self).0 (reason self).1 };
+}
+
+// The answer to what an operation tells.
+pub fn answer_to<T: Values, E: Reason>(told: Result<T, E>) -> Answer
+    ensures { result ≡ answer_by T.values E.reason told }
 {
-    refused(number_of(why), node_of(why) as u64)
+    match told {
+        Ok(value) => value.done(),
+        Err(why) => why.refused(),
+    }
 }

@@ -9,28 +9,20 @@ ghost use Rattle.text.specs.Write.{write_table};
 ghost use Rattle.text_assignment.specs.Line.{read_assignment};
 ghost use Rattle.measurements.specs.Measurement.{measurements};
 ghost use Rattle.circuits.specs.Check.{check};
-ghost use Rattle.queries.specs.Answers.{tested};
 ghost use Rattle.queries.specs.Queries.{evaluation, model_count, implicant_test, prime_test, reduction};
-ghost use Rattle.partial.specs.Answers.{partial_outcome};
 ghost use Rattle.partial.specs.Partial.{partial_evaluation};
 ghost use Rattle.exclusions.specs.Exclusions.{exclusions};
-ghost use Rattle.listing.specs.Listing.{lent, list_table, listed, viewed};
-ghost use Rattle.filtered.specs.Filtered.{filtered_lent, filtered_table, filtered};
+ghost use Rattle.listing.specs.Listing.{lent, list_table, viewed};
+ghost use Rattle.filtered.specs.Filtered.{filtered_lent, filtered_table};
 ghost use Rattle.quelbrift.specs.Boundary.{version, answer_of, nothing, number, numbers, triple, truth, masks, placed};
 
 pub mod answer;
+pub mod reasons;
 pub mod scripts;
+pub mod values;
 
-use answer::{Answer, done, done_three, done_truth, refused, refused_by};
-use filtered::FilteredListing;
-use listing::Listing;
-use partial::PartialEvaluation;
-use queries::{Counted, Evaluation, Reduction, Tested};
-use table::Checked;
+use answer::{Answer, answer_to, done_with};
 use terms::Term;
-use text::answer::{Reading, fault_number};
-use text_assignment::assignment::AssignmentReading;
-use text_writer::writer::Written;
 
 // The version of these functions and their answers: QUELBRIFT_VERSION in the header.
 const VERSION: u32 = 7;
@@ -46,10 +38,7 @@ pub fn quelbrift_read(text: &[u8], words: &mut [u32]) -> Answer
     ensures value { result ≡ answer_of numbers (read_text text.now (length words.old)).answer }
     ensures words_after { words.new ≡ (read_text text.now (length words.old)).words }
 {
-    match text_reader::reader::read(text, words) {
-        Reading::Circuit(variables, nodes) => done(variables as u64, nodes as u64),
-        Reading::Refused(fault, place) => refused(fault_number(fault), place as u64),
-    }
+    answer_to(text_reader::reader::read(text, words))
 }
 
 // Writes a table as text into the sink: the length.
@@ -57,51 +46,28 @@ pub fn quelbrift_write(words: &[u32], variables: u32, nodes: u32, sink: &mut [u8
     ensures value { result ≡ answer_of number (write_table variables nodes words.now sink.old).answer }
     ensures sink_after { sink.new ≡ (write_table variables nodes words.now sink.old).sink }
 {
-    match text_writer::writer::write(words, variables, nodes, sink) {
-        Written::Done(length) => done(length as u64, 0),
-        Written::Refused(why) => refused_by(why),
-        Written::Sink(length) => refused(16, length as u64),
-    }
+    answer_to(text_writer::writer::write(words, variables, nodes, sink))
 }
 
 // The check of a table.
 pub fn quelbrift_check(words: &[u32], variables: u32, nodes: u32) -> Answer
     ensures { result ≡ answer_of nothing (check variables nodes words.now) }
 {
-    match checks::check(words, variables, nodes) {
-        Checked::Accepted => done(0, 0),
-        Checked::Refused(why) => refused_by(why),
-    }
+    answer_to(checks::check(words, variables, nodes))
 }
 
 // The verdict: 1 where the assignment satisfies the circuit, else 0.
 pub fn quelbrift_evaluate(words: &[u32], variables: u32, nodes: u32, assignment: u64) -> Answer
     ensures { result ≡ answer_of truth (evaluation variables nodes words.now assignment) }
 {
-    match queries::evaluate(words, variables, nodes, assignment) {
-        Evaluation::Value(b) => done_truth(b),
-        Evaluation::Refused(why) => refused_by(why),
-    }
+    answer_to(queries::evaluate(words, variables, nodes, assignment))
 }
 
 // The model count.
 pub fn quelbrift_count_models(words: &[u32], variables: u32, nodes: u32) -> Answer
     ensures { result ≡ answer_of number (model_count variables nodes words.now) }
 {
-    match queries::count_models(words, variables, nodes) {
-        Counted::Models(m) => done(m, 0),
-        Counted::Refused(why) => refused_by(why),
-    }
-}
-
-// The answer to a test of a term: 1 or 0.
-fn test(r: Tested) -> Answer
-    ensures { result ≡ answer_of truth (tested r) }
-{
-    match r {
-        Tested::Answer(b) => done_truth(b),
-        Tested::Refused(why) => refused_by(why),
-    }
+    answer_to(queries::count_models(words, variables, nodes))
 }
 
 // 1 where the term is an implicant, else 0.
@@ -115,7 +81,7 @@ pub fn quelbrift_implies(
     ensures { result ≡ answer_of truth
         (implicant_test variables nodes words.now (record { positive = positive; negative = negative })) }
 {
-    test(queries::implies(words, variables, nodes, Term { positive, negative }))
+    answer_to(queries::implies(words, variables, nodes, Term { positive, negative }))
 }
 
 // 1 where the term is a prime implicant, else 0.
@@ -129,31 +95,14 @@ pub fn quelbrift_is_prime(
     ensures { result ≡ answer_of truth
         (prime_test variables nodes words.now (record { positive = positive; negative = negative })) }
 {
-    test(queries::is_prime(words, variables, nodes, Term { positive, negative }))
+    answer_to(queries::is_prime(words, variables, nodes, Term { positive, negative }))
 }
 
 // The masks of the prime implicant to which the assignment is struck down.
 pub fn quelbrift_reduce(words: &[u32], variables: u32, nodes: u32, assignment: u64) -> Answer
     ensures { result ≡ answer_of masks (reduction variables nodes words.now assignment) }
 {
-    match queries::reduce(words, variables, nodes, assignment) {
-        Reduction::Reduced(t) => done(t.positive, t.negative),
-        Reduction::Refused(why) => refused_by(why),
-    }
-}
-
-// The answer to a partial assignment: its status and the numbers of its completions.
-fn partial_answer(r: PartialEvaluation) -> Answer
-    ensures { result ≡ answer_of triple (partial_outcome r) }
-{
-    match r {
-        PartialEvaluation::Judged(j) => {
-            let s = j.status;
-            done_three(partial::status_number(s) as u64, j.models, j.countermodels)
-        }
-        PartialEvaluation::Measurement(i) => refused(53, i as u64),
-        PartialEvaluation::Refused(why) => refused_by(why),
-    }
+    answer_to(queries::reduce(words, variables, nodes, assignment))
 }
 
 // The status of a term with the measurements' literals: 2 where every completion satisfies the circuit, 0 where none does, else 1;
@@ -173,7 +122,7 @@ pub fn quelbrift_evaluate_partial(
         (partial_evaluation variables nodes words.now (record { positive = positive; negative = negative })
         (measurements measured.now lows.now highs.now thresholds.now)) }
 {
-    partial_answer(partial::evaluate_partial(
+    answer_to(partial::evaluate_partial(
         words,
         variables,
         nodes,
@@ -183,16 +132,6 @@ pub fn quelbrift_evaluate_partial(
         highs,
         thresholds,
     ))
-}
-
-// The answer of a listing with a shown list: how many terms that has.
-fn filtered_answer(r: FilteredListing) -> Answer
-    ensures { result ≡ answer_of number (filtered r) }
-{
-    match r {
-        FilteredListing::Listed(count) => done(count as u64, 0),
-        FilteredListing::Refused(why) => refused_by(why),
-    }
 }
 
 // Lists the prime implicants of every node, in order by the weights ("minutes"); and in the shown list those of the last node that
@@ -222,7 +161,7 @@ pub fn quelbrift_list(
         (filtered_lent (lent positives.old negatives.old counts.old)
         shown_positives.old shown_negatives.old)).after }
 {
-    filtered_answer(filtered::list(
+    answer_to(filtered::list(
         positives,
         negatives,
         counts,
@@ -236,16 +175,6 @@ pub fn quelbrift_list(
         nodes,
         capacity,
     ))
-}
-
-// The answer of a listing without a shown list.
-fn list_answer(r: Listing) -> Answer
-    ensures { result ≡ answer_of nothing (listed r) }
-{
-    match r {
-        Listing::Listed => done(0, 0),
-        Listing::Refused(why) => refused_by(why),
-    }
 }
 
 // Lists the prime implicants of every node's negation, in the same order.
@@ -268,7 +197,7 @@ pub fn quelbrift_list_negation(
     ensures counts_after { counts.new ≡ (list_table false weights.now variables nodes words.now capacity
         (lent positives.old negatives.old counts.old)).after.counts }
 {
-    list_answer(listing::list_negation(
+    answer_to(listing::list_negation(
         positives, negatives, counts, words, weights, variables, nodes, capacity,
     ))
 }
@@ -279,19 +208,14 @@ pub fn quelbrift_view(buffer: &[u64], capacity: u32, node: u32, count: u32) -> A
 {
     let part = listing::view(buffer, capacity, node, count);
     if part.len() == 0 {
-        return done(0, 0);
+        return done_with(0, 0, 0);
     }
-    done((node as u64) * (capacity as u64), part.len() as u64)
+    done_with((node as u64) * (capacity as u64), part.len() as u64, 0)
 }
 
 // Reads the line of an assignment: the mask of the variables that are true.
 pub fn quelbrift_read_assignment(line: &[u8], variables: u32) -> Answer
     ensures { result ≡ answer_of number (read_assignment line.now variables) }
 {
-    match text_assignment::assignment::read_assignment(line, variables) {
-        AssignmentReading::Assignment(mask) => done(mask, 0),
-        AssignmentReading::Sizes => refused(21, 0),
-        AssignmentReading::LineShape(place) => refused(51, place as u64),
-        AssignmentReading::LineOrder(place) => refused(52, place as u64),
-    }
+    answer_to(text_assignment::assignment::read_assignment(line, variables))
 }

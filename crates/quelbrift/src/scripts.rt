@@ -1,26 +1,28 @@
 // Loading scripts: their steps are a list of records, of which the code below takes plain columns.
 ghost use Rattle.std.specs.Prelude.{◌≡◌};
+ghost use Rattle.std.specs.Prelude.{Err};
 ghost use Rattle.text_script.specs.Answers.{script_outcome};
 ghost use Rattle.text_script.specs.Script.{read_script};
 ghost use Rattle.listing.specs.Listing.{lent};
-ghost use Rattle.walk.specs.Answers.{walked_outcome};
+ghost use Rattle.walk.specs.Answers.{settled_step, walked_outcome};
 ghost use Rattle.walk.specs.Walk.{walk_table, walk_lent};
-ghost use Rattle.quelbrift.specs.Boundary.{answer_of, number, numbers};
+ghost use Rattle.quelbrift.specs.Boundary.{answer_of, number, numbers, reason_of};
 
-use super::answer::{Answer, done, refused, refused_by};
+use super::answer::{Answer, Reason, Values, answer_to, done_with, refused_at};
 use steps::Step;
-use text_script::script::ScriptReading;
-use walk::Walked;
+use text_script::answer::ScriptFault;
+use text_script::script::read;
+use walk::{StepFault, WalkRefusal};
 
-// The number of steps, or the refusal.
-fn script_answer(r: ScriptReading) -> Answer
-    ensures { result ≡ answer_of number (script_outcome r) }
-{
-    match r {
-        ScriptReading::Steps(count) => done(count as u64, 0),
-        ScriptReading::Sizes => refused(21, 0),
-        ScriptReading::Shape(place) => refused(54, place as u64),
-        ScriptReading::Variable(place) => refused(55, place as u64),
+impl Reason for ScriptFault {
+    ghost reason = { λ why. reason_of (script_outcome (Err why)) };
+
+    fn refused(self) -> Answer {
+        match self {
+            ScriptFault::Sizes => refused_at(21, 0),
+            ScriptFault::Shape(place) => refused_at(54, place as u64),
+            ScriptFault::Variable(place) => refused_at(55, place as u64),
+        }
     }
 }
 
@@ -29,25 +31,36 @@ pub fn quelbrift_read_script<'a, 'b>(text: &'a [u8], variables: u32, list: &'b m
     ensures { (result ≡ answer_of number (read_script text.now variables list.old).answer)
         × (list.new ≡ (read_script text.now variables list.old).steps) }
 {
-    let script = text_script::script::read(text, variables, list.len());
-    steps::store(
-        text_script::script::columns_in(script),
-        text_script::script::count_in(script),
-        list,
-    );
-    script_answer(text_script::script::reading_in(script))
+    match read(text, variables, list.len()) {
+        Ok(script) => {
+            steps::store(script.columns, script.count, list);
+            script.count.done()
+        }
+        Err(why) => why.refused(),
+    }
 }
 
-// 1 and the step from which on every status is satisfied, or 0 and 0; or the refusal.
-fn walk_answer(r: Walked) -> Answer
-    ensures { result ≡ answer_of numbers (walked_outcome r) }
-{
-    match r {
-        Walked::Settled(step) => done(1, step as u64),
-        Walked::Unsettled => done(0, 0),
-        Walked::Act(step) => refused(54, step as u64),
-        Walked::Variable(step) => refused(55, step as u64),
-        Walked::Refused(why) => refused_by(why),
+// 1 and the step from which on every status is satisfied, or 0 and 0.
+impl Values for Option<usize> {
+    ghost values = { λ step. numbers (settled_step step) };
+
+    fn done(self) -> Answer {
+        match self {
+            Some(step) => done_with(1, step as u64, 0),
+            None => done_with(0, 0, 0),
+        }
+    }
+}
+
+impl Reason for WalkRefusal {
+    ghost reason = { λ why. reason_of (walked_outcome (Err why)) };
+
+    fn refused(self) -> Answer {
+        match self {
+            WalkRefusal::Step(StepFault::Act(step)) => refused_at(54, step as u64),
+            WalkRefusal::Step(StepFault::Variable(step)) => refused_at(55, step as u64),
+            WalkRefusal::Table(why) => why.refused(),
+        }
     }
 }
 
@@ -75,7 +88,7 @@ pub fn quelbrift_walk<'a, 'b>(
         (walk_lent (lent positives.old negatives.old counts.old)
         statuses.old compatibles.old)).after) }
 {
-    walk_answer(walk::walk(
+    answer_to(walk::walk(
         positives,
         negatives,
         counts,

@@ -10,7 +10,7 @@ use std::io::{Print, Read, Stdin, Stdout};
 use table::layout::NODE_WORDS;
 use table::{MAX_NODES, Refusal};
 use terms::Term;
-use text::answer::{Fault, Reading};
+use text::answer::{Circuit, Fault, Misread};
 use text::limits::MAX_BYTES;
 
 fn print_refusal(stdout: Stdout, why: Refusal) {
@@ -133,8 +133,8 @@ fn judge(
 fn ask(stdout: Stdout, text: &[u8], assignment: u64, positive: u64, negative: u64) {
     let mut words = [0u32; NODE_WORDS * (MAX_NODES as usize)];
     match text_reader::reader::read(text, &mut words) {
-        Reading::Refused(fault, place) => print_fault(stdout, fault, place),
-        Reading::Circuit(variables, nodes) => {
+        Err(Misread(fault, place)) => print_fault(stdout, fault, place),
+        Ok(Circuit { variables, nodes }) => {
             count(stdout, &words, variables, nodes);
             evaluate(stdout, &words, variables, nodes, assignment);
             test(
@@ -206,8 +206,8 @@ fn measured_questions(stdout: Stdout, words: &[u32], variables: u32, nodes: u32)
 fn ask_measured(stdout: Stdout, text: &[u8]) {
     let mut words = [0u32; NODE_WORDS * (MAX_NODES as usize)];
     match text_reader::reader::read(text, &mut words) {
-        Reading::Refused(fault, place) => print_fault(stdout, fault, place),
-        Reading::Circuit(variables, nodes) => measured_questions(stdout, &words, variables, nodes),
+        Err(Misread(fault, place)) => print_fault(stdout, fault, place),
+        Ok(Circuit { variables, nodes }) => measured_questions(stdout, &words, variables, nodes),
     }
     print(stdout, b"\n", 1);
 }

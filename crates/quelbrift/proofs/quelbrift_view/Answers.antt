@@ -14,7 +14,7 @@ returns-then-part-eq0 c =
     let x = c.args in
     let e = sym (ap length c.view-part.ensures) ∙ c.if-part-eq0.true in
     let p = placed-none x.capacity x.node (viewed x.buffer.now x.capacity x.node x.count) e in
-    c.done.ensures ∙ ap (λ q. done_with q.0 q.1.0 q.1.1) (sym p)
+    c.done_with.ensures ∙ ap (λ q. done_with q.0 q.1.0 q.1.1) (sym p)
 
 pub overflow_mul-node : goal.overflow_mul-node
 overflow_mul-node c =
@@ -28,4 +28,4 @@ returns c =
     let l = ap length c.view-part.ensures in
     let p = placed-some x.capacity x.node (viewed x.buffer.now x.capacity x.node x.count)
     (λ e. c.if-part-eq0.false (l ∙ e)) in
-    c.done-2.ensures ∙ ap (λ k. done_with (x.node * x.capacity) k 0) l ∙ ap (λ q. done_with q.0 q.1.0 q.1.1) (sym p)
+    c.done_with-2.ensures ∙ ap (λ k. done_with (x.node * x.capacity) k 0) l ∙ ap (λ q. done_with q.0 q.1.0 q.1.1) (sym p)

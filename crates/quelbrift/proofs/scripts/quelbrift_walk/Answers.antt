@@ -5,7 +5,7 @@ use Rattle.steps.specs.declared.Columns.{Columns}
 use Rattle.listing.specs.Listing.{lent}
 use Rattle.walk.specs.Answers.{WalkResult}
 use Rattle.walk.specs.Walk.{walk_lent, WalkLent}
-use Rattle.quelbrift.proofs.WalkedAnswer.{walked-columns}
+use Rattle.quelbrift.proofs.ScriptAnswers.{told-walk, walked-columns}
 use Rattle.quelbrift.proofs.scripts.quelbrift_walk.Goals as goal
 
 pub returns : goal.returns
@@ -21,4 +21,4 @@ returns c =
     WalkResult x.weights.now x.variables x.nodes x.words.now x.capacity (steps_in z (length x.list.now)) before after c.walk.result)
     c.columns_of.ensures c.walk.ensures in
     let h = walked-columns x.weights.now x.variables x.nodes x.words.now x.capacity x.list.now {b = before} {b' = after} walked in
-    (c.walk_answer.ensures ∙ h.0, h.1)
+    (c.answer_to.ensures ∙ told-walk c.walk.result ∙ h.0, h.1)

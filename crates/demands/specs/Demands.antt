@@ -1,6 +1,6 @@
 -- The demands on the engine, each as one statement over the definitions that the contracts of the exported functions cite.
 -- N is a number of variables, n of nodes, w a table's words; a place is a number of bytes, a node or a needed length.
-use Rattle.std.specs.Prelude.{ℕ, pred, ◌+◌, ◌-◌, ◌*◌, ◌^◌, ◌<◌, ◌≤◌, Bool, true, false, ◌&&◌, ◌||◌, not, T, ltb, leb, get_or, length, take, drop, replicate, ◌≡◌, ◌⊎◌, ◌≢◌}
+use Rattle.std.specs.Prelude.{ℕ, pred, ◌+◌, ◌-◌, ◌*◌, ◌^◌, ◌<◌, ◌≤◌, Bool, true, false, Some, ◌&&◌, ◌||◌, not, T, ltb, leb, get_or, length, take, drop, replicate, ◌≡◌, ◌⊎◌, ◌≢◌}
 use mathlib.Core.List.{Memᴰ, List, [], ◌∷◌, ◌++◌}
 use Rattle.masks.specs.Numbers.{count, Lowest}
 use Rattle.steps.specs.Steps.{max_steps, no_step}

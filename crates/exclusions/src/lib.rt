@@ -7,8 +7,8 @@ ghost use Rattle.lists.specs.List.{SameLoan, slots, terms_in};
 ghost use Rattle.exclusions.specs.Exclusions.{exclusions, distinct, proper, respects, Exclusions};
 ghost use Rattle.exclusions.specs.Partners.{Folded, Filtered};
 
-use masks::{is_disjoint, lowest_bit, with_bit, without_bit};
 use lists::list::{TermBuffer, TermList};
+use masks::{is_disjoint, lowest_bit, with_bit, without_bit};
 use terms::Term;
 
 // Two different variables below the number of variables.

@@ -15,8 +15,8 @@ ghost use Rattle.listing.specs.Listing.{lent, suffices};
 ghost use Rattle.filtered.specs.Filtered.{filtered_lent, filtered_checked, filtered_table, Gives};
 ghost use Rattle.filtered.specs.Exact.{last_terms, LastHeld, FilteredExact};
 
-use lists::list::{TermBuffer, TermList};
 use listing::Shape;
+use lists::list::{TermBuffer, TermList};
 use table::{MAX_VARIABLES, Refusal};
 
 // How many masks the pairs are folded into.

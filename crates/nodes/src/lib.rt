@@ -17,9 +17,9 @@ ghost use Rattle.settling.specs.Sides.{SidesAt};
 ghost use Rattle.nodes.specs.Part.{gate_made, node_made, Given, PairGiven, NodeGiven, terms_at, child_from, child_size, child_terms, Laid};
 ghost use Rattle.nodes.specs.Part.{PartFilled, IsPart, places, HasPlace};
 
+use lists::list::{TermBuffer, TermList};
 use table::gates::{Gate, decode_at};
 use table::layout::Children;
-use lists::list::{TermBuffer, TermList};
 use terms::Term;
 
 // Makes the terms of a constant: the term with no literal, or none. How many they are, here and below; none where they are more than
@@ -70,13 +70,7 @@ fn conjoin(list: &mut TermBuffer, a: TermList, b: TermList, sign: bool) -> Optio
 
 // Makes the terms of a gate, or of its negation, from two lists: those of two children, or a child's and what is
 // made of those after it.
-fn make(
-    list: &mut TermBuffer,
-    a: TermList,
-    b: TermList,
-    gate: Gate,
-    sign: bool,
-) -> Option<usize>
+fn make(list: &mut TermBuffer, a: TermList, b: TermList, gate: Gate, sign: bool) -> Option<usize>
     requires { Given gate a b }
     ensures made { Filled (gate_made sign gate (terms_in a.entry) (terms_in b.entry)) (slots list.old) (slots list.new) result }
     ensures same_loan { SameLoan list.old list.new }

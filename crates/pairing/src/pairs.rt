@@ -197,13 +197,9 @@ fn step(
     if !is_high_settled(kept, hints, b, turn)
         && goes_low(low, high, a.len() - low.at, b.len() - high.at)
     {
-        return step_low(
-            list, kept, hints, columns, a, b, turn,
-        );
+        return step_low(list, kept, hints, columns, a, b, turn);
     }
-    step_high(
-        list, kept, hints, columns, a, b, turn,
-    )
+    step_high(list, kept, hints, columns, a, b, turn)
 }
 
 // Settles all pairs.
@@ -238,9 +234,7 @@ pub fn join_all(
         high: first,
     };
     while turn.low.at < a.len() && turn.high.at < b.len() {
-        turn = step(
-            list, kept, hints, columns, a, b, turn,
-        )?;
+        turn = step(list, kept, hints, columns, a, b, turn)?;
     }
     Some(Counts {
         listed: turn.listed,

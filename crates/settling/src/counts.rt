@@ -18,12 +18,7 @@ pub struct Counts {
 
 // Lists t, and keeps it at hand where it is new and there is room. The counts then; none where there are more terms than the slices have
 // entries.
-pub fn keep(
-    list: &mut TermBuffer,
-    kept: &mut [u64],
-    counts: Counts,
-    t: Term,
-) -> Option<Counts>
+pub fn keep(list: &mut TermBuffer, kept: &mut [u64], counts: Counts, t: Term) -> Option<Counts>
     requires listed_in_bounds { (counts.listed ≤ length list.old.positives.now)
         × Rising (before []) (held (slots list.old) counts.listed) }
     requires kept_in_bounds { 2 * counts.kept ≤ length kept.old }

@@ -259,7 +259,5 @@ pub fn settle_row(
     if hints::covers(kept, count, hint, a.at(at)) {
         return Some(counts);
     }
-    join_row(
-        list, kept, hints, columns, a, b, row,
-    )
+    join_row(list, kept, hints, columns, a, b, row)
 }

@@ -5,7 +5,6 @@ use mathlib.Core.List.{List}
 use native.Mathlib.Omega.{arith}
 use lib.ListN.{length}
 use Rattle.std.specs.Prelude.{Some, None}
-
 use Rattle.terms.specs.declared.Term.{Term}
 use Rattle.lists.specs.List.{slots, terms_in}
 use Rattle.insertion.proofs.Parts.{Even, even-slots}
@@ -37,9 +36,11 @@ module _ (c : At-loop-k) where
 
 pub loop-k-init : goal.loop-k-init
 loop-k-init c =
-    let x = c.args in
-    (turn-start (joining_all (terms_in x.a)) x.b.positives.now x.b.negatives.now (slots x.list.now)
-    (even-slots x.list.now) 0 zero-le tt, (refl, refl))
+    let x = c.args in (
+      turn-start (joining_all (terms_in x.a)) x.b.positives.now x.b.negatives.now (slots x.list.now)
+          (even-slots x.list.now) 0 zero-le tt,
+      (refl, refl),
+    )
 
 pub join_each-requires : goal.join_each-requires
 join_each-requires c =
@@ -53,12 +54,14 @@ pub loop-k-preserved : goal.loop-k-preserved
 loop-k-preserved c =
     let l = (goal.at.loop-k-preserved c).At-loop-k in
     let x = c.args in
-    let then : Bool → List ℕ = slots c.join_each.new.list in
-    (turn-next (steps l) x.b.positives.now x.b.negatives.now c.args.b.same_length (whole l) (first l) (now l) (evens l) c.loop-k.count c.loop-k.k
-    c.loop-k.invariant.0
-    (omega (arith, c.loop-k-test.true)) then c.in_ok-count.count
-    (subst (λ (t : Term). Added ((steps l).one t) (now l) c.loop-k.count then (Some c.in_ok-count.count)) c.at.ensures
-    c.in_ok-count.ensures.made), (c.join_each.ensures.same_loan.0 ∙ c.loop-k.invariant.1.0, c.join_each.ensures.same_loan.1 ∙ c.loop-k.invariant.1.1))
+    let then : Bool → List ℕ = slots c.join_each.new.list in (
+      turn-next (steps l) x.b.positives.now x.b.negatives.now c.args.b.same_length (whole l) (first l) (now l) (evens l) c.loop-k.count c.loop-k.k
+          c.loop-k.invariant.0
+          (omega (arith, c.loop-k-test.true)) then c.in_ok-count.count
+          (subst (λ (t : Term). Added ((steps l).one t) (now l) c.loop-k.count then (Some c.in_ok-count.count)) c.at.ensures
+          c.in_ok-count.ensures.made),
+      (c.join_each.ensures.same_loan.0 ∙ c.loop-k.invariant.1.0, c.join_each.ensures.same_loan.1 ∙ c.loop-k.invariant.1.1),
+    )
 
 pub returns-in_err-count-clause-made : goal.returns-in_err-count-clause-made
 returns-in_err-count-clause-made c =

@@ -36,9 +36,11 @@ module _ (c : At-loop-k) where
 
 pub loop-k-init : goal.loop-k-init
 loop-k-init c =
-    let x = c.args in
-    (turn-start (joining_one x.t) x.others.positives.now x.others.negatives.now (slots x.list.now)
-    (even-slots x.list.now) x.start c.requires.0 c.requires.1, (refl, refl))
+    let x = c.args in (
+      turn-start (joining_one x.t) x.others.positives.now x.others.negatives.now (slots x.list.now)
+          (even-slots x.list.now) x.start c.requires.0 c.requires.1,
+      (refl, refl),
+    )
 
 pub add_join-requires : goal.add_join-requires
 add_join-requires c =
@@ -52,12 +54,14 @@ pub loop-k-preserved : goal.loop-k-preserved
 loop-k-preserved c =
     let l = (goal.at.loop-k-preserved c).At-loop-k in
     let x = c.args in
-    let then : Bool → List ℕ = slots c.add_join.new.list in
-    (turn-next (steps l) x.others.positives.now x.others.negatives.now c.args.others.same_length (whole l) (first l) (now l) (evens l) c.loop-k.count c.loop-k.k
-    c.loop-k.invariant.0
-    (omega (arith, c.loop-k-test.true)) then c.in_ok-count.count
-    (subst (λ (t : Term). Added ((steps l).one t) (now l) c.loop-k.count then (Some c.in_ok-count.count)) c.at.ensures
-    c.in_ok-count.ensures.made), (c.add_join.ensures.same_loan.0 ∙ c.loop-k.invariant.1.0, c.add_join.ensures.same_loan.1 ∙ c.loop-k.invariant.1.1))
+    let then : Bool → List ℕ = slots c.add_join.new.list in (
+      turn-next (steps l) x.others.positives.now x.others.negatives.now c.args.others.same_length (whole l) (first l) (now l) (evens l) c.loop-k.count c.loop-k.k
+          c.loop-k.invariant.0
+          (omega (arith, c.loop-k-test.true)) then c.in_ok-count.count
+          (subst (λ (t : Term). Added ((steps l).one t) (now l) c.loop-k.count then (Some c.in_ok-count.count)) c.at.ensures
+          c.in_ok-count.ensures.made),
+      (c.add_join.ensures.same_loan.0 ∙ c.loop-k.invariant.1.0, c.add_join.ensures.same_loan.1 ∙ c.loop-k.invariant.1.1),
+    )
 
 pub returns-in_err-count-clause-made : goal.returns-in_err-count-clause-made
 returns-in_err-count-clause-made c =

@@ -44,9 +44,11 @@ child_at-made-requires c =
 pub loop-k-init : goal.loop-k-init
 loop-k-init c =
     let s = (goal.at.loop-k-init c).Start in
-    let h = c.requires.laid in
-    (making-start (lent s) c.args.counts.now c.args.part h.0 h.1 (c.places-last.result - 1) c.child_at-made.result
-    (ap (λ (n : ℕ). n - 1) c.places-last.ensures) c.child_at-made.ensures.0 c.child_at-made.ensures.1, c.requires.has_place)
+    let h = c.requires.laid in (
+      making-start (lent s) c.args.counts.now c.args.part h.0 h.1 (c.places-last.result - 1) c.child_at-made.result
+          (ap (λ (n : ℕ). n - 1) c.places-last.ensures) c.child_at-made.ensures.0 c.child_at-made.ensures.1,
+      c.requires.has_place,
+    )
 
 pub child_at-requires : goal.child_at-requires
 child_at-requires c =
@@ -93,10 +95,12 @@ loop-k-preserved c =
     let l = (goal.at.loop-k-preserved c).At-loop-k in
     let j = this (goal.at.loop-k-preserved c).In-loop-k in
     let h = c.requires.laid in
-    let n : ℕ = c.in_ok-count.count in
-    (making-more (lent s) c.args.counts.now c.args.part h.0 h.1 (c.loop-k.k - 1) (now l) c.loop-k.made j c.child_at.result
-    c.child_at.ensures.0 c.child_at.ensures.1 (by_sign c.fill_part.new.positives c.fill_part.new.negatives) (Some n)
-    c.in_ok-count.ensures.made n refl, c.fill_part.ensures.has_place)
+    let n : ℕ = c.in_ok-count.count in (
+      making-more (lent s) c.args.counts.now c.args.part h.0 h.1 (c.loop-k.k - 1) (now l) c.loop-k.made j c.child_at.result
+          c.child_at.ensures.0 c.child_at.ensures.1 (by_sign c.fill_part.new.positives c.fill_part.new.negatives) (Some n)
+          c.in_ok-count.ensures.made n refl,
+      c.fill_part.ensures.has_place,
+    )
 
 pub returns-clause-made : goal.returns-clause-made
 returns-clause-made c =

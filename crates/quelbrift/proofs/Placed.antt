@@ -6,21 +6,11 @@ use mathlib.Core.List.{List, [], ◌∷◌}
 use lib.Dec.{leb, eqb, ltb}
 use lib.ListN.{length, take, drop}
 use native.Mathlib.Nat.{le_of_eq, not-suc-le-zero}
-use borrow.Author.Tests.{eq-eqb, ne_eqb, eqb-true}
+use borrow.Author.Tests.{eqb-true}
 use Rattle.table.specs.Node.{max_nodes}
 use Rattle.lists.specs.Capacity.{max_capacity}
 use Rattle.listing.specs.Listing.{viewed}
 use Rattle.quelbrift.specs.Boundary.{placed}
-
--- by whether the part is empty
-placed_by : (R i : ℕ) (l : List ℕ) (b : Bool) → eqb (length l) 0 ≡ b → placed R i l ≡ cond b (0, (0, 0)) (i * R, (length l, 0))
-placed_by R i l b e = ap (λ (c : Bool). cond c (0, (0, 0)) (i * R, (length l, 0))) e
-
-pub placed-none : (R i : ℕ) (l : List ℕ) → length l ≡ 0 → placed R i l ≡ (0, (0, 0))
-placed-none R i l e = placed_by R i l true (eq-eqb (length l) 0 e)
-
-pub placed-some : (R i : ℕ) (l : List ℕ) → (length l ≡ 0 → ⊥) → placed R i l ≡ (i * R, (length l, 0))
-placed-some R i l e = placed_by R i l false (ne_eqb (length l) 0 e)
 
 -- what a caller finds in the buffer s from an offset on
 abbrev pub found : List ℕ → ℕ × (ℕ × ℕ) → List ℕ

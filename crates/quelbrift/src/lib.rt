@@ -207,7 +207,7 @@ pub fn quelbrift_view(buffer: &[u64], capacity: u32, node: u32, count: u32) -> A
     ensures { result ≡ answer_of (placed capacity node) (answered (viewed buffer.now capacity node count)) }
 {
     let part = listing::view(buffer, capacity, node, count);
-    if part.len() == 0 {
+    if part.is_empty() {
         return done_with(0, 0, 0);
     }
     done_with((node as u64) * (capacity as u64), part.len() as u64, 0)

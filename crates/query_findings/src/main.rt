@@ -40,7 +40,7 @@ fn print_term(stdout: Stdout, t: Term) {
 }
 
 fn print_number(stdout: Stdout, number: u64) {
-    stdout.print(number).is_ok();
+    let _ = stdout.print(number);
 }
 
 // The scope's word of a status.
@@ -291,10 +291,7 @@ fn read_full(mut stdin: Stdin, buf: &mut [u8]) -> usize
 {
     let mut done: usize = 0;
     while done < buf.len() {
-        let came = match stdin.read(&mut buf[done..]) {
-            Ok(n) => n,
-            Err(_) => 0,
-        };
+        let came = stdin.read(&mut buf[done..]).unwrap_or(0);
         if came == 0 {
             break;
         }

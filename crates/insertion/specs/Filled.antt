@@ -3,7 +3,7 @@ use Rattle.std.specs.Prelude.{ℕ, ◌<◌, ◌≤◌, ◌≡◌, Bool, true, fa
 use Rattle.std.specs.Prelude.{Option, Some, None, Result, Ok, Err}
 use Rattle.terms.specs.Lists.{insert}
 use Rattle.terms.specs.Order.{before}
-use Rattle.terms.specs.Term.{empty, mask, terms_of}
+use Rattle.terms.specs.Term.{empty, mask}
 use Rattle.terms.specs.declared.Term.{Term}
 
 -- the list with v put in front of what stands from k on

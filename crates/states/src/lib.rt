@@ -21,10 +21,13 @@ pub fn join_states(a: State, b: State) -> Option<State>
     ensures { result ≡ join_states a b }
 {
     match (a, b) {
-        (State::Absent, s) => Some(s),
-        (s, State::Absent) => Some(s),
+        (State::Absent, State::Absent) => Some(State::Absent),
+        (State::Absent, State::Negative) => Some(State::Negative),
+        (State::Absent, State::Positive) => Some(State::Positive),
+        (State::Negative, State::Absent) => Some(State::Negative),
         (State::Negative, State::Negative) => Some(State::Negative),
         (State::Negative, State::Positive) => None,
+        (State::Positive, State::Absent) => Some(State::Positive),
         (State::Positive, State::Negative) => None,
         (State::Positive, State::Positive) => Some(State::Positive),
     }

@@ -35,7 +35,8 @@ module _ (m : List ℕ) (N n : ℕ) (w : List ℕ) (R : ℕ) (es : List Step) wh
   -- what the walk says of the columns of the steps holds of the steps: the answer, and the buffers afterwards
   pub walked-columns : {b b' : WalkLent} {r : Result (Option ℕ) WalkRefusal}
       → WalkResult m N n w R (steps_in (columns es) (length es)) b b' r
-      → (answer_of numbers (walked_outcome r) ≡ answer_of numbers (walk_table m N n w R es b).answer) × (b' ≡ (walk_table m N n w R es b).after)
+      → (answer_of numbers (walked_outcome r) ≡ answer_of numbers (walk_table m N n w R es b).answer)
+      × (b' ≡ (walk_table m N n w R es b).after)
   walked-columns {b} {b'} h =
       let same : walk_table m N n w R (steps_in (columns es) (length es)) b ≡ walk_table m N n w R es b = walk-columns m N n w R b es in
       let kept : b' ≡ (walk_table m N n w R (steps_in (columns es) (length es)) b).after =

@@ -42,19 +42,21 @@ pub fn find_shorter(first: TermList, second: TermList, t: Term) -> Option<(usize
     ensures { Found first.entry second.entry t result }
 {
     let mut shared = terms::EMPTY;
-    for k in 0..first.len() {
+    let mut found = None;
+    'pairs: for k in 0..first.len() {
         let a = first.at(k);
         if is_short(t, shared, a) {
             let mut next = t;
             for l in 0..second.len() {
                 let b = second.at(l);
                 if is_short(t, a, b) {
-                    return Some((k, l));
+                    found = Some((k, l));
+                    break 'pairs;
                 }
                 next = narrow(t, next, b);
             }
             shared = next;
         }
     }
-    None
+    found
 }

@@ -1,6 +1,5 @@
 // Loading scripts: their steps are a list of records, of which the code below takes plain columns.
-ghost use Rattle.std.specs.Prelude.{◌≡◌};
-ghost use Rattle.std.specs.Prelude.{Err};
+ghost use Rattle.std.specs.Prelude.{◌≡◌, Err};
 ghost use Rattle.text_script.specs.Answers.{script_outcome};
 ghost use Rattle.text_script.specs.Script.{read_script};
 ghost use Rattle.listing.specs.Listing.{lent};

@@ -16,7 +16,7 @@ use Rattle.listing.specs.Guarded.{untouched, after_tests}
 use Rattle.filtered.specs.Exact.{FilteredExact}
 use Rattle.filtered.specs.Filtered.{shown_primes, shown_masks, filtered_lent, suffices_all, cleared_all, filled_all}
 use Rattle.filtered.specs.Filtered.{filtered_checked, filtered_table, Gives, FilteredLent, FilteredOut}
-use Rattle.std.specs.Prelude.{Result, Ok, Err}
+use Rattle.std.specs.Prelude.{Result, Err}
 
 -- by the outcome
 gives-by : (p o : FilteredOut) (b' : FilteredLent) (r : Result ℕ Refusal) → p ≡ o → outcome r ≡ o.answer → b' ≡ o.after → Gives p b' r

@@ -1,7 +1,7 @@
 -- `filtered::filter_last` meets its contract.
 use Prim.Native.Nat.{ℕ, pred, ◌+◌, ◌-◌, ◌*◌, ◌^◌, ◌<◌, ◌≤◌}
 use mathlib.Core.Path.{◌≡◌, refl, sym, ap, ap₂, subst, ◌∙◌}
-use mathlib.Core.Bool.{Bool, true, false}
+use mathlib.Core.Bool.{Bool, true}
 use mathlib.Core.List.{List}
 use native.Mathlib.Nat.{le_trans, le_of_eq}
 use native.Mathlib.Omega.{arith}
@@ -15,7 +15,6 @@ use Rattle.exclusions.specs.Exclusions.{exclusions, Exclusions}
 use Rattle.exclusions.specs.Partners.{respecting, Filtered}
 use Rattle.exclusions.proofs.Respects.{proper-wider}
 use Rattle.lists.specs.Capacity.{max_capacity}
-use Rattle.lists.specs.List.{by_sign}
 use Rattle.insertion.specs.Filled.{masks_of}
 use Rattle.insertion.proofs.Parts.{length-masks}
 use Rattle.listing.proofs.Last.{last-part}

@@ -5,7 +5,7 @@ ghost use Rattle.console.specs.Input.{IsPrefixLen};
 use std::io;
 use std::io::{Read, Stdin};
 
-// Reads until the buffer is full or the input ends: how many bytes came. Bytes past the buffer are dropped. What came before a read that
+// Reads until the buffer is full or the input ends: how many bytes came. Bytes past the buffer are not read. What came before a read that
 // failed is not told: it may be a part of the text.
 pub fn read_input(mut stdin: Stdin, buf: &mut [u8]) -> io::Result<usize>
     ensures { IfOk result (λ n. IsPrefixLen n buf.new) }

@@ -1,4 +1,4 @@
--- The sides for which there is scratch of its own size. No public contract rests on these.
+-- How long a short side is. No public contract rests on this.
 use Rattle.std.specs.Prelude.{ℕ}
 
 -- how many terms a short side has at most

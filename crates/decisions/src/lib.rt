@@ -1,7 +1,7 @@
 // The terms of a decision from the terms of its sides: every search for a shorter join ends in a new term of the list.
 #![tactic(auto)]
 
-ghost use Rattle.std.specs.Prelude.{◌≡◌, [], ◌*◌, ◌≤◌, length, replicate};
+ghost use Rattle.std.specs.Prelude.{[], ◌*◌, ◌≤◌, length, replicate};
 ghost use Rattle.terms.specs.Joins.{decision_terms};
 ghost use Rattle.terms.specs.Lists.{sort};
 ghost use Rattle.terms.specs.Order.{before};

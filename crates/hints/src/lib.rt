@@ -63,7 +63,7 @@ pub fn covers(kept: &[u64], count: usize, hint: Option<usize>, t: Term) -> bool
     h < count && terms::inside(kept_at(kept, h), t)
 }
 
-// The hint of term k, where there is room for one.
+// The hint of term k, `NO_PLACE` before it is set; none where there is no room for one.
 pub fn hint_at(hints: &[u16], k: usize) -> Option<usize> {
     if k < hints.len() {
         return Some(hints[k] as usize);
@@ -75,10 +75,8 @@ pub fn hint_at(hints: &[u16], k: usize) -> Option<usize> {
 pub fn set_hint(hints: &mut [u16], k: usize, place: usize)
     ensures { length hints.new ≡ length hints.old }
 {
-    if k < hints.len() {
-        if place < 65536 {
-            hints[k] = place as u16;
-        }
+    if k < hints.len() && place < 65536 {
+        hints[k] = place as u16;
     }
 }
 

@@ -1,7 +1,7 @@
 // All joins of two lists of terms, in order, each once: the terms of a conjunction of two without a common variable.
 #![tactic(auto)]
 
-ghost use Rattle.std.specs.Prelude.{◌≡◌, [], ◌∷◌, ◌≤◌, length};
+ghost use Rattle.std.specs.Prelude.{[], ◌∷◌, ◌≤◌, length};
 ghost use Rattle.terms.specs.Joins.{joins_with, joins};
 ghost use Rattle.terms.specs.Lists.{Rising};
 ghost use Rattle.terms.specs.Order.{before};

@@ -8,10 +8,6 @@ use Rattle.lists.specs.Capacity.{max_capacity}
 use Rattle.listing.specs.declared.Shape.{Shape}
 use Rattle.listing.specs.Listing.{node_primes, listed_masks, listed_counts, exceeds, cleared, filled, Lent}
 
--- the capacity up to which scratch is small
-abbrev pub small_capacity : ℕ
-small_capacity = 256
-
 -- the circuit is accepted, and the buffers have zeros alone, as many as its nodes' parts have entries
 pub record Zeroed (h : Shape) (w : List ℕ) (s : Bool → List ℕ) (cs : List ℕ) : Type 0 where
   pub accepts : check h.variables h.nodes w ≡ accepted

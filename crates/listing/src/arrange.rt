@@ -4,7 +4,7 @@ ghost use Rattle.weighing.specs.Sums.{sum_count};
 ghost use Rattle.arranging.specs.Arranged.{Light, Arrangeable, Arranged};
 ghost use Rattle.lists.specs.List.{by_sign};
 ghost use Rattle.lists.specs.Capacity.{max_capacity};
-ghost use Rattle.listing.specs.Exact.{small_capacity, Unarranged, Arranges};
+ghost use Rattle.listing.specs.Exact.{Unarranged, Arranges};
 
 use super::{LARGE, SMALL, Shape};
 use lists::list::TermBuffer;

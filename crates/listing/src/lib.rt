@@ -10,7 +10,7 @@ ghost use Rattle.lists.specs.Capacity.{max_capacity};
 ghost use Rattle.lists.specs.List.{by_sign};
 ghost use Rattle.nodes.specs.Part.{HasPlace};
 ghost use Rattle.weighing.specs.Weights.{fitting};
-ghost use Rattle.listing.specs.Exact.{small_capacity, Zeroed, Tried, Exact, Attempted};
+ghost use Rattle.listing.specs.Exact.{Zeroed, Tried, Exact, Attempted};
 ghost use Rattle.listing.specs.Listing.{lent, ListResult, suffices, viewed};
 
 mod arrange;
@@ -106,17 +106,17 @@ fn fill_with<const ROOM: usize>(
     ensures { Tried shape.variables shape.nodes (signed_function shape.sign words.now) shape.capacity
         (by_sign positives.new negatives.new) counts.new result }
 {
-    let mut ap = [0u64; ROOM];
-    let mut an = [0u64; ROOM];
-    let mut bp = [0u64; ROOM];
-    let mut bn = [0u64; ROOM];
+    let mut low_positives = [0u64; ROOM];
+    let mut low_negatives = [0u64; ROOM];
+    let mut high_positives = [0u64; ROOM];
+    let mut high_negatives = [0u64; ROOM];
     let mut low = TermBuffer {
-        positives: &mut ap,
-        negatives: &mut an,
+        positives: &mut low_positives,
+        negatives: &mut low_negatives,
     };
     let mut high = TermBuffer {
-        positives: &mut bp,
-        negatives: &mut bn,
+        positives: &mut high_positives,
+        negatives: &mut high_negatives,
     };
     fill_nodes(
         positives, negatives, counts, &mut low, &mut high, words, shape,

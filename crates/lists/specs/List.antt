@@ -1,4 +1,4 @@
--- The terms of a list, and the entries of a buffer.
+-- The terms of a list, and the entries of a buffer. No public contract rests on these.
 use Rattle.std.specs.Prelude.{ℕ, Bool, true, false, List, take, ◌≡◌}
 use Rattle.terms.specs.Term.{terms_of}
 use Rattle.terms.specs.declared.Term.{Term}
@@ -6,6 +6,7 @@ use Rattle.lists.specs.Entries.{term_at}
 use Rattle.lists.specs.declared.list.TermBuffer.{TermBuffer}
 use Rattle.lists.specs.declared.list.TermList.{TermList}
 
+-- the terms of a list, in its order
 abbrev pub terms_in : TermList → List Term
 terms_in l = terms_of l.positives.now l.negatives.now
 
@@ -22,6 +23,7 @@ by_sign ps ns false = ns
 abbrev pub SameLoan : TermBuffer → TermBuffer → Type 0
 SameLoan b b' = (b'.positives.ghost_name ≡ b.positives.ghost_name) × (b'.negatives.ghost_name ≡ b.negatives.ghost_name)
 
+-- the entries of a buffer, by sign
 abbrev pub slots : TermBuffer → Bool → List ℕ
 slots b = by_sign b.positives.now b.negatives.now
 

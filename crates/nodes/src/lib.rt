@@ -22,8 +22,8 @@ use table::gates::{Gate, decode_at};
 use table::layout::Children;
 use terms::Term;
 
-// Makes the terms of a constant: the term with no literal, or none. How many they are, here and below; none where they are more than
-// there is room for.
+// Makes the terms of a constant: the term with no literal, or none. How many they are, here and below; `None` where there is
+// no room for them.
 fn constant(list: &mut TermBuffer, value: bool) -> Option<usize>
     ensures made { Filled (cond value (empty ∷ []) []) (slots list.old) (slots list.new) result }
     ensures same_loan { SameLoan list.old list.new }
@@ -49,10 +49,7 @@ fn literal(list: &mut TermBuffer, sign: bool, x: u32) -> Option<usize>
 fn signed(sign: bool, value: bool) -> bool
     ensures { result ≡ signed sign value }
 {
-    if sign {
-        return value;
-    }
-    !value
+    value == sign
 }
 
 // Makes the terms of a conjunction without a common variable, or of its negation, from those of two parts.
@@ -84,7 +81,7 @@ fn make(list: &mut TermBuffer, a: TermList, b: TermList, gate: Gate, sign: bool)
     }
 }
 
-// The same in two slices.
+// Makes them in two slices, which are lent as one buffer for that.
 fn make_in(
     positives: &mut [u64],
     negatives: &mut [u64],

@@ -2,7 +2,7 @@
 ghost use Rattle.lists.specs.List.{SameLoan, slots};
 ghost use Rattle.std.specs.Prelude.{◌≡◌, ◌+◌, ◌*◌, ◌≤◌, ◌<◌, length};
 ghost use Rattle.lists.specs.Capacity.{max_capacity};
-ghost use Rattle.hints.specs.Scratch.{HasHalves, max_cost};
+ghost use Rattle.hints.specs.Scratch.{HasHalves};
 ghost use Rattle.settling.specs.Growth.{Growing, Grown};
 ghost use Rattle.pairing.specs.Pairs.{Paired, Turns};
 ghost use Rattle.settling.specs.Sides.{least_between, AllSettled};

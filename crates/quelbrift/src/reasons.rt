@@ -5,7 +5,7 @@ ghost use Rattle.text.specs.Answers.{reading_of};
 ghost use Rattle.text_assignment.specs.Answers.{assignment_of};
 ghost use Rattle.text_writer.specs.Answers.{written_of};
 ghost use Rattle.partial.specs.Answers.{partial_outcome};
-ghost use Rattle.quelbrift.specs.Boundary.{number, reason_of};
+ghost use Rattle.quelbrift.specs.Boundary.{reason_of};
 
 use super::answer::{Answer, Reason, refused_at};
 use partial::PartialRefusal;

@@ -1,5 +1,5 @@
 // How far a list has grown, and one term more.
-ghost use Rattle.std.specs.Prelude.{◌≡◌, [], ◌*◌, ◌≤◌, length};
+ghost use Rattle.std.specs.Prelude.{[], ◌*◌, ◌≤◌, length};
 ghost use Rattle.terms.specs.Lists.{Rising};
 ghost use Rattle.terms.specs.Order.{before};
 ghost use Rattle.lists.specs.List.{SameLoan, held, slots};

@@ -35,12 +35,7 @@ fn scan(list: TermList, end: usize, t: Term) -> Option<usize>
     requires { end ≤ length list.positives.now }
     ensures { FoundBefore list.entry end t result }
 {
-    for k in 0..end {
-        if terms::inside(list.at(k), t) {
-            return Some(k);
-        }
-    }
-    None
+    (0..end).find(|k| terms::inside(list.at(*k), t))
 }
 
 // The place of a term inside t: a guess first, then t itself by halving, then those before `end`, since from there on none is ahead of t.
@@ -48,10 +43,8 @@ pub fn find_inside(list: TermList, end: usize, guess: usize, t: Term) -> Option<
     requires { Searchable list end t }
     ensures { FoundInside list.entry t result }
 {
-    if guess < list.len() {
-        if terms::inside(list.at(guess), t) {
-            return Some(guess);
-        }
+    if guess < list.len() && terms::inside(list.at(guess), t) {
+        return Some(guess);
     }
     match insertion::locate(list, t) {
         Ok(k) => Some(k),

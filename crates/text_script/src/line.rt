@@ -1,5 +1,5 @@
 // A line of a loading script, after its opening bracket.
-ghost use Rattle.std.specs.Prelude.{◌≡◌, ◌+◌, ◌≤◌, ◌<◌, length};
+ghost use Rattle.std.specs.Prelude.{◌+◌, ◌≤◌, ◌<◌, length};
 ghost use Rattle.text_script.specs.Lines.{Reads, Ended, LineRuns};
 ghost use Rattle.text_script.specs.Script.{opened, setting, sign, dropping};
 

@@ -1,4 +1,3 @@
-pub mod Signed
 pub mod Walk
 pub mod Right
 pub mod Literals

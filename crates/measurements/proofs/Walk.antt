@@ -8,8 +8,6 @@ use lib.Dec.{leb, eqb}
 use lib.ListN.{length}
 use lib.Signed.{lt_z}
 use borrow.Author.Tests.{le-leb, lt-leb}
-use mir.Syntax.{w32}
-use mir.Val.{to_z, of_z, SFits}
 use Rattle.std.specs.Prelude.{Some, None}
 use Rattle.masks.specs.Mask.{bit, put}
 use Rattle.masks.specs.Numbers.{some, least}
@@ -19,7 +17,6 @@ use Rattle.terms.specs.declared.Term.{Term}
 use Rattle.measurements.specs.Measurement.{complete, entries, variable_at, low_at, high_at, threshold_at, wrong, Measurements}
 use Rattle.measurements.specs.Measurement.{with_measured, measured_term}
 use Rattle.measurements.specs.Walk.{first_wrong, seen}
-use Rattle.measurements.proofs.Signed.{less-plain}
 
 module _ (m : Measurements) where
   -- ---- a complete measurement has an entry in each list
@@ -65,14 +62,12 @@ module _ (m : Measurements) where
 
   -- ---- wrong measurements
   module _ (N v : ℕ) where
-    -- the test of one, as the code reads its bounds
-    pub wrong-test : (i : ℕ) {s : ℕ} {b : Bool} → i < complete m → SFits w32 (high_at m i) → SFits w32 (low_at m i) → s ≡ seen v m i
-        → b ≡ (lt_z (to_z w32 (of_z w32 (high_at m i))) (to_z w32 (of_z w32 (low_at m i))) || leb N (variable_at m i) || bit s (variable_at m i))
-        → b ≡ wrong N v m i
+    -- the test of one
+    pub wrong-test : (i : ℕ) {s : ℕ} {b : Bool} → i < complete m → s ≡ seen v m i
+        → b ≡ (lt_z (high_at m i) (low_at m i) || leb N (variable_at m i) || bit s (variable_at m i)) → b ≡ wrong N v m i
     unfolding wrong
-    wrong-test i {s} l h k e d =
+    wrong-test i l e d =
         d
-        ∙ ap (λ (z : Bool). z || leb N x || bit s x) (sym (less-plain h k))
         ∙ ap (λ (z : Bool). outside || z) (ap (λ (z : ℕ). bit z x) e ∙ seen-bit v i x)
         ∙ sym (or_assoc outside (bit v x) again)
         ∙ sym (ap (λ (z : Bool). z || lt_z (high_at m i) (low_at m i) || leb N x || bit v x || again) (lt-leb (complete m) i l))

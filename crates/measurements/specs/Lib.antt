@@ -1,3 +1,4 @@
 pub mod Measurement
 pub mod Answers
+pub mod List
 pub mod Walk

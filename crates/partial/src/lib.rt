@@ -5,13 +5,14 @@ ghost use Rattle.std.specs.Prelude.{◌≡◌, ◌-◌, ◌^◌, ◌≤◌, T, e
 ghost use Rattle.table.specs.Outcome.{accepted};
 ghost use Rattle.terms.specs.Completions.{status_by};
 ghost use Rattle.terms.specs.Term.{is_term, literals};
-ghost use Rattle.measurements.specs.Measurement.{measurements};
+ghost use Rattle.measurements.specs.List.{measurements_in};
 ghost use Rattle.circuits.specs.Check.{check};
 ghost use Rattle.queries.specs.Queries.{circuit};
 ghost use Rattle.partial.specs.Answers.{status_number, judged, partial_outcome};
 ghost use Rattle.partial.specs.declared.PartialRefusal.{PartialRefusal};
 ghost use Rattle.partial.specs.Partial.{judgement, partial_evaluation};
 
+use measurements::list::MeasurementList;
 use table::Refusal;
 use terms::Term;
 
@@ -91,24 +92,18 @@ pub fn judge(words: &[u32], variables: u32, n: usize, t: Term) -> Judgement
     }
 }
 
-// The judgement on a term with the measurements' literals added. The lists are parallel, of any lengths.
+// The judgement on a term with the measurements' literals added.
 // Cost: that of the check, a constant number of steps a child, and that of the measurements.
 pub fn evaluate_partial(
     words: &[u32],
     variables: u32,
     nodes: u32,
     t: Term,
-    measured: &[u32],
-    lows: &[i32],
-    highs: &[i32],
-    thresholds: &[i32],
+    list: MeasurementList,
 ) -> Result<Judgement, PartialRefusal>
-    ensures { partial_outcome result ≡ partial_evaluation variables nodes words.now t
-        (measurements measured.now lows.now highs.now thresholds.now) }
+    ensures { partial_outcome result ≡ partial_evaluation variables nodes words.now t (measurements_in list.entry) }
 {
     checks::check_term(words, variables, nodes, t)?;
-    let known = measurements::measure(variables, t, measured, lows, highs, thresholds).map_err(
-        PartialRefusal::Measurement,
-    )?;
+    let known = measurements::measure(variables, t, list).map_err(PartialRefusal::Measurement)?;
     Ok(judge(words, variables, nodes as usize, known))
 }

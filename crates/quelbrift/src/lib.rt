@@ -22,6 +22,7 @@ pub mod scripts;
 pub mod values;
 
 use answer::{Answer, answer_to, done_with};
+use measurements::list::MeasurementList;
 use terms::Term;
 
 // The version of these functions and their answers: QUELBRIFT_VERSION in the header.
@@ -127,10 +128,12 @@ pub fn quelbrift_evaluate_partial(
         variables,
         nodes,
         Term { positive, negative },
-        measured,
-        lows,
-        highs,
-        thresholds,
+        MeasurementList {
+            variables: measured,
+            lows,
+            highs,
+            thresholds,
+        },
     ))
 }
 

@@ -4,6 +4,7 @@
 ghost use Rattle.console.specs.Input.{IsPrefixLen};
 
 use console::print;
+use measurements::list::MeasurementList;
 use output::refusals::{fault_line, table_refusal_line};
 use partial::{Judgement, PartialRefusal, Status};
 use std::io::{Print, Read, Stdin, Stdout};
@@ -114,15 +115,10 @@ fn judge(
     nodes: u32,
     positive: u64,
     negative: u64,
-    measured: &[u32],
-    lows: &[i32],
-    highs: &[i32],
-    thresholds: &[i32],
+    list: MeasurementList,
 ) {
     let t = Term { positive, negative };
-    match partial::evaluate_partial(
-        words, variables, nodes, t, measured, lows, highs, thresholds,
-    ) {
+    match partial::evaluate_partial(words, variables, nodes, t, list) {
         Err(PartialRefusal::Table(why)) => print_refusal(stdout, why),
         Err(PartialRefusal::Measurement(i)) => print_wrong(stdout, i),
         Ok(j) => print_judgement(stdout, j),
@@ -152,10 +148,12 @@ fn ask(stdout: Stdout, text: &[u8], assignment: u64, positive: u64, negative: u6
                 nodes,
                 positive,
                 negative,
-                &[],
-                &[],
-                &[],
-                &[],
+                MeasurementList {
+                    variables: &[],
+                    lows: &[],
+                    highs: &[],
+                    thresholds: &[],
+                },
             );
         }
     }
@@ -171,10 +169,12 @@ fn measured_questions(stdout: Stdout, words: &[u32], variables: u32, nodes: u32)
         nodes,
         0,
         0,
-        &[0, 1],
-        &[10, -3],
-        &[12, 3],
-        &[10, 0],
+        MeasurementList {
+            variables: &[0, 1],
+            lows: &[10, -3],
+            highs: &[12, 3],
+            thresholds: &[10, 0],
+        },
     );
     judge(
         stdout,
@@ -183,10 +183,12 @@ fn measured_questions(stdout: Stdout, words: &[u32], variables: u32, nodes: u32)
         nodes,
         0,
         1,
-        &[1],
-        &[-4],
-        &[-4],
-        &[-4],
+        MeasurementList {
+            variables: &[1],
+            lows: &[-4],
+            highs: &[-4],
+            thresholds: &[-4],
+        },
     );
     judge(
         stdout,
@@ -195,10 +197,12 @@ fn measured_questions(stdout: Stdout, words: &[u32], variables: u32, nodes: u32)
         nodes,
         0,
         2,
-        &[0, 1],
-        &[5, 5],
-        &[9, 9],
-        &[10, 10],
+        MeasurementList {
+            variables: &[0, 1],
+            lows: &[5, 5],
+            highs: &[9, 9],
+            thresholds: &[10, 10],
+        },
     );
 }
 

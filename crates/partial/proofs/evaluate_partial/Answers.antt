@@ -13,7 +13,8 @@ use Rattle.terms.specs.Term.{is_term}
 use Rattle.terms.specs.declared.Term.{Term}
 use Rattle.terms.proofs.Terms.{is_term-e, is_term-i}
 use Rattle.measurements.specs.Answers.{measured_outcome}
-use Rattle.measurements.specs.Measurement.{measurements, entries, measured_term, check_measurements, Measurements}
+use Rattle.measurements.specs.List.{measurements_in}
+use Rattle.measurements.specs.Measurement.{entries, measured_term, check_measurements, Measurements}
 use Rattle.measurements.proofs.Literals.{measured-IsTerm}
 use Rattle.measurements.proofs.Right.{known-passed, wrong-stands, passed-right}
 use Rattle.checks.proofs.Arguments.{term-e}
@@ -44,7 +45,7 @@ pub returns-in_err-check_term : goal.returns-in_err-check_term
 unfolding partial_evaluation
 returns-in_err-check_term c =
     let x = c.args in
-    let m = measurements x.measured.now x.lows.now x.highs.now x.thresholds.now in
+    let m = measurements_in x.list in
     ap partial_outcome (handed _ _ c.from_residual.ensures)
     ∙ refusal-stands c.check_term.ensures (rest x.variables x.nodes x.words.now x.t m) c.in_err-check_term.was
 
@@ -59,7 +60,7 @@ measure-requires c =
 pub judge-requires : goal.judge-requires
 judge-requires c =
     let x = c.args in
-    let m = measurements x.measured.now x.lows.now x.highs.now x.thresholds.now in
+    let m = measurements_in x.list in
     let e = term-e x.variables x.nodes x.words.now x.t (goes_on c.check_term.ensures c.in_ok-check_term.was) in
     let k : c.measure.result ≡ Ok c.in_ok-known.known = search rules in
     let known = known-passed x.variables x.t m c.in_ok-known.known (sym c.measure.ensures ∙ ap measured_outcome k) in
@@ -69,7 +70,7 @@ pub returns-in_err-known : goal.returns-in_err-known
 unfolding partial_evaluation
 returns-in_err-known c =
     let x = c.args in
-    let m = measurements x.measured.now x.lows.now x.highs.now x.thresholds.now in
+    let m = measurements_in x.list in
     let k : (i : ℕ) × (c.measure.result ≡ Err i) × (c.in_err-known.field-0.0 ≡ PartialRefusal.Measurement i) = search rules in
     ap partial_outcome (handed _ _ c.from_residual-in_err-known.ensures)
     ∙ ap (λ (p : PartialRefusal). partial_outcome (Err p)) k.2
@@ -80,7 +81,7 @@ pub returns : goal.returns
 unfolding partial_evaluation
 returns c =
     let x = c.args in
-    let m = measurements x.measured.now x.lows.now x.highs.now x.thresholds.now in
+    let m = measurements_in x.list in
     let k : c.measure.result ≡ Ok c.in_ok-known.known = search rules in
     let known = known-passed x.variables x.t m c.in_ok-known.known (sym c.measure.ensures ∙ ap measured_outcome k) in
     ap answered (c.judge.ensures ∙ ap (judgement x.variables (circuit x.nodes x.words.now)) (sym known.1))

@@ -37,25 +37,24 @@ fn support_at(words: &[u32], n: usize, i: usize, supports: &[u64; MAX_NODES as u
     }
 }
 
-// What a pass makes of the first n nodes, the lowest first: the step is given a node, and what it made of those below. Where it makes
-// f of each node from f of those below, f is what is made of all.
+// Puts what a pass makes of the first n nodes into an array of `none`, the lowest first: the step is given a node, and what it made of those
+// below. Where it makes f of each node from f of those below, f is what is made of all.
 fn bottom_up<V: Copy, F: Fn(usize, &[V; MAX_NODES as usize]) -> V>(
+    values: &mut [V; MAX_NODES as usize],
     n: usize,
     none: V,
     step: F,
-) -> [V; MAX_NODES as usize]
+)
     requires few { n ≤ max_nodes }
     requires made { (f : ℕ → V) × ((i : ℕ) (a : _) → i < n → Holds none f i a.now
         → F.pre step i a × ((r : V) → F.post step i a r → r ≡ f i)) }
     ensures { (f : ℕ → V) → ((i : ℕ) (a : _) (r : V) → i < n → Holds none f i a.now → F.post step i a r → r ≡ f i)
-        → Holds none f n result }
+        → Holds none f n values.new }
 {
-    let mut values = [none; MAX_NODES as usize];
     for i in 0..n {
-        let v = step(i, &values);
+        let v = step(i, values);
         values[i] = v;
     }
-    values
 }
 
 // The variables under each of the first n nodes. Cost: a constant number of steps a child.
@@ -63,7 +62,11 @@ pub fn supports(words: &[u32], n: usize) -> [u64; MAX_NODES as usize]
     requires { Readable n words.now }
     ensures { Holds 0 (support words.now) n result }
 {
-    bottom_up(n, 0, |i, supports| support_at(words, n, i, supports))
+    let mut supports = [0; MAX_NODES as usize];
+    bottom_up(&mut supports, n, 0, |i, supports| {
+        support_at(words, n, i, supports)
+    });
+    supports
 }
 
 // Node i's value at the assignment s, from its children's values.
@@ -92,7 +95,10 @@ pub fn value(words: &[u32], n: usize, s: u64) -> bool
     requires { Readable n words.now }
     ensures { result ≡ function words.now (pred n) s }
 {
-    let values = bottom_up(n, false, |i, values| value_at(words, n, i, s, values));
+    let mut values = [false; MAX_NODES as usize];
+    bottom_up(&mut values, n, false, |i, values| {
+        value_at(words, n, i, s, values)
+    });
     values[n - 1]
 }
 
@@ -136,7 +142,10 @@ pub fn implied(words: &[u32], n: usize, t: Term) -> bool
     requires { Readable n words.now }
     ensures { result ≡ implied_at words.now t (pred n) }
 {
-    let implied = bottom_up(n, false, |i, implied| implied_at(words, n, i, t, implied));
+    let mut implied = [false; MAX_NODES as usize];
+    bottom_up(&mut implied, n, false, |i, implied| {
+        implied_at(words, n, i, t, implied)
+    });
     implied[n - 1]
 }
 
@@ -198,7 +207,8 @@ pub fn models_under(words: &[u32], variables: u32, n: usize, t: Term) -> u64
     ensures { result ≡ models_under variables (function words.now (pred n)) t }
 {
     let supports = supports(words, n);
-    let models = bottom_up(n, 0, |i, models| {
+    let mut models = [0; MAX_NODES as usize];
+    bottom_up(&mut models, n, 0, |i, models| {
         models_at(words, variables, n, i, t, &supports, models)
     });
     models[n - 1] >> terms::literals(t)

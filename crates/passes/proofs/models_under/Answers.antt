@@ -10,8 +10,8 @@ use Rattle.passes.proofs.models_under.Goals as goal
 pub supports-supports-requires : goal.supports-supports-requires
 supports-supports-requires c = accepted-readable _ _ _ c.requires.0
 
-pub bottom_up-models-requires : goal.bottom_up-models-requires
-bottom_up-models-requires c =
+pub bottom_up-requires : goal.bottom_up-requires
+bottom_up-requires c =
     let r = (accepted-readable _ _ _ c.requires.0).1.nodes in (
       search rules,
       (
@@ -41,6 +41,6 @@ pub returns : goal.returns
 returns c =
     let q = (accepted-readable _ _ _ c.requires.0).1 in
     let f = λ (i : ℕ). scaled c.args.variables (function c.args.words.now i) c.args.t in
-    let held = c.bottom_up-models.ensures f (λ i a r k h p. search rules) in
+    let held = c.bottom_up.ensures f (λ i a r k h p. search rules) in
     unscaled c.args.variables (function c.args.words.now (pred c.args.n)) c.args.t _ _
-    (last-held 0 f c.args.n c.bottom_up-models.result q.first held) c.literals.ensures
+    (last-held 0 f c.args.n c.bottom_up.new.values q.first held) c.literals.ensures

@@ -3,10 +3,13 @@
 
 ghost use Rattle.std.specs.Prelude.{◌≡◌, ◌+◌, ◌≤◌, length, take, drop};
 
-// Copies count entries from `at` on to the front of a buffer.
+// Copies count entries from `at` on to the front of a buffer. One by one: `copy_from_slice` calls `memmove`, which who links the archive
+// need not have.
 pub fn copy(to: &mut [u64], from: &[u64], at: usize, count: usize)
     requires { (at + count ≤ length from.now) × (count ≤ length to.old) }
     ensures { take count to.new ≡ take count (drop at from.now) }
 {
-    to[..count].copy_from_slice(&from[at..at + count]);
+    for j in 0..count {
+        to[j] = from[at + j];
+    }
 }

@@ -17,7 +17,6 @@ mod arrange;
 
 use arrange::arrange_all;
 use lists::MAX_CAPACITY;
-use lists::list::TermBuffer;
 use table::{MAX_NODES, Refusal};
 
 // The capacity up to which scratch is small.
@@ -68,24 +67,35 @@ pub struct Shape {
 }
 
 // Fills the nodes' parts of buffers of zeros, the lowest node first; false where a node has more terms than the capacity.
-// low and high are scratch for the terms of a node's children: what they hold before and after is left free.
+// The four slices of low and high terms are scratch for the terms of a node's children: what they hold before and after is left free.
 fn fill_nodes(
     positives: &mut [u64],
     negatives: &mut [u64],
     counts: &mut [u32],
-    low: &mut TermBuffer,
-    high: &mut TermBuffer,
+    low_positives: &mut [u64],
+    low_negatives: &mut [u64],
+    high_positives: &mut [u64],
+    high_negatives: &mut [u64],
     words: &[u32],
     shape: Shape,
 ) -> bool
     requires zeroed { Zeroed shape words.now (by_sign positives.old negatives.old) counts.old }
-    requires has_place { HasPlace shape.capacity low.old high.old }
+    requires has_place { HasPlace shape.capacity low_positives.old low_negatives.old high_positives.old high_negatives.old }
     ensures { Tried shape.variables shape.nodes (signed_function shape.sign words.now) shape.capacity
         (by_sign positives.new negatives.new) counts.new result }
 {
     for i in 0..shape.nodes {
         let part = nodes::part_of(words, i, shape.capacity, shape.sign);
-        let Some(c) = nodes::fill_node(positives, negatives, low, high, counts, part) else {
+        let Some(c) = nodes::fill_node(
+            positives,
+            negatives,
+            low_positives,
+            low_negatives,
+            high_positives,
+            high_negatives,
+            counts,
+            part,
+        ) else {
             return false;
         };
         counts[i] = c as u32;
@@ -110,16 +120,16 @@ fn fill_with<const ROOM: usize>(
     let mut low_negatives = [0u64; ROOM];
     let mut high_positives = [0u64; ROOM];
     let mut high_negatives = [0u64; ROOM];
-    let mut low = TermBuffer {
-        positives: &mut low_positives,
-        negatives: &mut low_negatives,
-    };
-    let mut high = TermBuffer {
-        positives: &mut high_positives,
-        negatives: &mut high_negatives,
-    };
     fill_nodes(
-        positives, negatives, counts, &mut low, &mut high, words, shape,
+        positives,
+        negatives,
+        counts,
+        &mut low_positives,
+        &mut low_negatives,
+        &mut high_positives,
+        &mut high_negatives,
+        words,
+        shape,
     )
 }
 

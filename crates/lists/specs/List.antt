@@ -1,5 +1,5 @@
 -- The terms of a list, and the entries of a buffer. No public contract rests on these.
-use Rattle.std.specs.Prelude.{ℕ, Bool, true, false, List, take, ◌≡◌}
+use Rattle.std.specs.Prelude.{ℕ, Bool, true, false, List, length, take, ◌≡◌}
 use Rattle.terms.specs.Term.{terms_of}
 use Rattle.terms.specs.declared.Term.{Term}
 use Rattle.lists.specs.Entries.{term_at}
@@ -19,9 +19,12 @@ abbrev pub by_sign : List ℕ → List ℕ → Bool → List ℕ
 by_sign ps ns true = ps
 by_sign ps ns false = ns
 
--- both slices are still lent from where they were, so that what is in them at the end is what their lender finds
+-- both slices are still lent from where they were, so that what is in them at the end is what their lender finds, and as long as they were;
+-- the two are of one length
 abbrev pub SameLoan : TermBuffer → TermBuffer → Type 0
-SameLoan b b' = (b'.positives.ghost_name ≡ b.positives.ghost_name) × (b'.negatives.ghost_name ≡ b.negatives.ghost_name)
+SameLoan b b' =
+    (b'.positives.ghost_name ≡ b.positives.ghost_name) × (b'.negatives.ghost_name ≡ b.negatives.ghost_name)
+    × (length b'.positives.now ≡ length b.positives.now)
 
 -- the entries of a buffer, by sign
 abbrev pub slots : TermBuffer → Bool → List ℕ

@@ -19,7 +19,7 @@ use Rattle.measurements.specs.Measurement.{variable_at, low_at, high_at, thresho
 use Rattle.measurements.proofs.Right.{Right}
 
 -- the term with the literal of x that a measurement gives, by what it says of true and of false
-abbrev chosen : Term → ℕ → Bool → Bool → Term
+abbrev pub chosen : Term → ℕ → Bool → Bool → Term
 chosen t x p q = cond p (extend t x true) (cond q (extend t x false) t)
 
 -- ---- one measurement: S b where it says that y is b

@@ -55,7 +55,7 @@ module _ (N v : ℕ) (m : Measurements) where
   none_below : entries m ≤ least (entries m) (wrong N v m) → (i : ℕ) → i < entries m → Right N v m i
   none_below h i l = right-e i (least-none (entries m) (wrong N v m) h i l)
 
-  all_right : first_wrong N v m ≡ None → (i : ℕ) → i < entries m → Right N v m i
+  pub all_right : first_wrong N v m ≡ None → (i : ℕ) → i < entries m → Right N v m i
   all_right h = none_below (first-nowhere (wrong N v m) (entries m) h)
 
   -- then each list is as long as the longest

@@ -14,7 +14,6 @@ use Rattle.terms.specs.Term.{empty, has, extend, terms_of}
 use Rattle.terms.specs.declared.Term.{Term}
 use Rattle.circuits.specs.Function.{signed}
 use Rattle.lists.specs.Capacity.{max_capacity}
-use Rattle.lists.specs.declared.list.TermBuffer.{TermBuffer}
 use Rattle.lists.specs.declared.list.TermList.{TermList}
 use Rattle.insertion.specs.Filled.{masks_of, laid, kept_of}
 use Rattle.settling.specs.Sides.{Sides, SidesAt, DecidedAt}
@@ -55,8 +54,8 @@ Given Conjunction a b = SidesAt a b
 Given Unknown a b = Unit {0}
 
 -- the scratch has place for two lists of so many terms
-abbrev pub HasPlace : ℕ → TermBuffer → TermBuffer → Type 0
-HasPlace capacity low high = (capacity ≤ length low.positives.now) × (capacity ≤ length high.positives.now)
+abbrev pub HasPlace : ℕ → List ℕ → List ℕ → List ℕ → List ℕ → Type 0
+HasPlace capacity ap an bp bn = (capacity ≤ length ap) × (capacity ≤ length an) × (capacity ≤ length bp) × (capacity ≤ length bn)
 
 -- the count terms that stand from `at` on
 abbrev pub terms_from : (Bool → List ℕ) → ℕ → ℕ → List Term

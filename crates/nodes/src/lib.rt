@@ -145,8 +145,8 @@ fn fill_part(
     requires room { (part.capacity ≤ max_capacity) × (part.low.count ≤ part.capacity) × (part.high.count ≤ part.capacity)
         × (part.low.from + part.capacity ≤ length positives.old) × (part.high.from + part.capacity ≤ length positives.old)
         × (part.at + part.capacity ≤ length positives.old) × (length negatives.old ≡ length positives.old) }
-    requires has_place { HasPlace part.capacity low.old high.old }
-    ensures has_place { HasPlace part.capacity low.new high.new }
+    requires has_place { (part.capacity ≤ length low.old.positives.now) × (part.capacity ≤ length high.old.positives.now) }
+    ensures has_place { (part.capacity ≤ length low.new.positives.now) × (part.capacity ≤ length high.new.positives.now) }
     ensures made { PartFilled
         (gate_made part.sign part.gate (terms_at (by_sign positives.old negatives.old) part.low)
         (terms_at (by_sign positives.old negatives.old) part.high))
@@ -207,7 +207,7 @@ fn places(gate: Gate, count: u32) -> usize
 // Makes the terms of a node, or of its negation, in its part. Those of a conjunction's last child but one go with the last one's, and
 // then each child's with what is there: what is made is no longer than the next, so that the part is enough for each. Other gates take
 // one turn.
-pub fn fill_node(
+fn fill_turns(
     positives: &mut [u64],
     negatives: &mut [u64],
     low: &mut TermBuffer,
@@ -218,9 +218,8 @@ pub fn fill_node(
     requires laid { Laid (by_sign positives.old negatives.old) counts.now part
         × NodeGiven part.sign part.gate (child_terms (by_sign positives.old negatives.old) counts.now part)
         (places part.gate part.children.count) }
-    requires has_place { HasPlace part.capacity low.old high.old }
-    ensures has_place { HasPlace part.capacity low.new high.new }
-    ensures made { PartFilled
+    requires has_place { (part.capacity ≤ length low.old.positives.now) × (part.capacity ≤ length high.old.positives.now) }
+    ensures { PartFilled
         (node_made part.sign part.gate part.children.count
         (child_terms (by_sign positives.old negatives.old) counts.now part))
         part.at part.capacity (by_sign positives.old negatives.old) (by_sign positives.new negatives.new) result }
@@ -245,6 +244,38 @@ pub fn fill_node(
         };
     }
     Some(made.count)
+}
+
+// The same with scratch in four slices, each with place for the capacity; its parts are lent as two buffers of one length for that.
+pub fn fill_node(
+    positives: &mut [u64],
+    negatives: &mut [u64],
+    low_positives: &mut [u64],
+    low_negatives: &mut [u64],
+    high_positives: &mut [u64],
+    high_negatives: &mut [u64],
+    counts: &[u32],
+    part: NodePart,
+) -> Option<usize>
+    requires laid { Laid (by_sign positives.old negatives.old) counts.now part
+        × NodeGiven part.sign part.gate (child_terms (by_sign positives.old negatives.old) counts.now part)
+        (places part.gate part.children.count) }
+    requires has_place { HasPlace part.capacity low_positives.old low_negatives.old high_positives.old high_negatives.old }
+    ensures has_place { HasPlace part.capacity low_positives.new low_negatives.new high_positives.new high_negatives.new }
+    ensures made { PartFilled
+        (node_made part.sign part.gate part.children.count
+        (child_terms (by_sign positives.old negatives.old) counts.now part))
+        part.at part.capacity (by_sign positives.old negatives.old) (by_sign positives.new negatives.new) result }
+{
+    let mut low = TermBuffer {
+        positives: &mut low_positives[..part.capacity],
+        negatives: &mut low_negatives[..part.capacity],
+    };
+    let mut high = TermBuffer {
+        positives: &mut high_positives[..part.capacity],
+        negatives: &mut high_negatives[..part.capacity],
+    };
+    fill_turns(positives, negatives, &mut low, &mut high, counts, part)
 }
 
 // The part of node i, or of its negation where the sign is false.

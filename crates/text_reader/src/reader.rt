@@ -1,5 +1,5 @@
 // The reading of a circuit text.
-ghost use Rattle.std.specs.Prelude.{◌≡◌, length};
+ghost use Rattle.std.specs.Prelude.{◌≡◌, length, replicate};
 ghost use Rattle.text.specs.Places.{HeaderRuns, ReadIs};
 ghost use Rattle.text.specs.Read.{header_at, read_text};
 
@@ -25,18 +25,25 @@ fn header(s: &[u8]) -> Result<(u32, usize), Misread>
     Ok((v, q + 2))
 }
 
+// Every word becomes 0.
+fn clear(words: &mut [u32])
+    ensures { words.new ≡ replicate (length words.old) 0 }
+{
+    words.fill(0);
+}
+
 // Reads a circuit text into lent words. A refusal leaves every word 0.
 pub fn read(text: &[u8], words: &mut [u32]) -> Result<Circuit, Misread>
     ensures { ReadIs result words.new (read_text text.now (length words.old)) }
 {
-    words.fill(0);
+    clear(words);
     if MAX_BYTES < text.len() {
         return Err(Misread(Fault::Length, MAX_BYTES));
     }
     let (variables, at) = header(text)?;
     let reading = lines_from(text, at, words, variables);
     if reading.is_err() {
-        words.fill(0);
+        clear(words);
     }
     reading
 }

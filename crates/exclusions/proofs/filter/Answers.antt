@@ -3,7 +3,7 @@ use mathlib.Core.Path.{refl, ◌≡◌, sym, ap, ◌∙◌}
 use mathlib.Core.Bool.{Bool, true, false}
 use mathlib.Core.List.{List, ◌∷◌}
 use native.Mathlib.Omega.{arith}
-use lib.ListN.{length, drop, set}
+use lib.ListN.{length, drop, set, length-set}
 use Rattle.masks.proofs.Tests.{was-true, was-false, either}
 use Rattle.terms.specs.Term.{mask}
 use Rattle.terms.specs.declared.Term.{Term}
@@ -22,7 +22,7 @@ loop-k-init c =
       omega arith,
       λ e f.
           filtering-start e (terms_in x.list) (length x.kept.now.positives.now) (slots x.kept.now) c.requires.zeros,
-      (refl, refl),
+      (refl, refl, refl),
     )
 
 -- the term of a turn, which is the first of what is left
@@ -59,7 +59,11 @@ loop-k-preserved c =
             filtering-keep e (list d) (length c.args.kept.now.positives.now) s l.count (own d) (first d) (l.invariant.1 e f) s'
             c.if-not-violates.count (passes d e f w.if-not-violates.true) (omega arith)
             (either (λ b. s' b ≡ set (s b) l.count (mask (own d) b)) true (ap (λ z. z.positives.now) w.kept-is) (ap (λ z. z.negatives.now) w.kept-is)) w.count-is,
-        (ap (λ z. z.positives.ghost_name) w.kept-is ∙ l.invariant.2.0, ap (λ z. z.negatives.ghost_name) w.kept-is ∙ l.invariant.2.1),
+        (
+          ap (λ z. z.positives.ghost_name) w.kept-is ∙ l.invariant.2.0,
+          ap (λ z. z.negatives.ghost_name) w.kept-is ∙ l.invariant.2.1,
+          ap (λ z. length z.positives.now) w.kept-is ∙ length-set _ _ _ ∙ l.invariant.2.2,
+        ),
       )
       | else-not-violates w ↦ (
         omega arith,
@@ -67,7 +71,11 @@ loop-k-preserved c =
             filtering-skip e (list d) (length c.args.kept.now.positives.now) s l.count (own d) (first d) (l.invariant.1 e f) s'
             c.if-not-violates.count (fails d e f w.if-not-violates.false)
             (either (λ b. s' b ≡ s b) true (ap (λ z. z.positives.now) w.kept-is) (ap (λ z. z.negatives.now) w.kept-is)) w.count-is,
-        (ap (λ z. z.positives.ghost_name) w.kept-is ∙ l.invariant.2.0, ap (λ z. z.negatives.ghost_name) w.kept-is ∙ l.invariant.2.1),
+        (
+          ap (λ z. z.positives.ghost_name) w.kept-is ∙ l.invariant.2.0,
+          ap (λ z. z.negatives.ghost_name) w.kept-is ∙ l.invariant.2.1,
+          ap (λ z. length z.positives.now) w.kept-is ∙ l.invariant.2.2,
+        ),
       )
     ]
 

@@ -39,7 +39,7 @@ loop-k-init c =
     let x = c.args in (
       turn-start (joining_all (terms_in x.a)) x.b.positives.now x.b.negatives.now (slots x.list.now)
           (even-slots x.list.now) 0 zero-le tt,
-      (refl, refl),
+      (refl, refl, refl),
     )
 
 pub join_each-requires : goal.join_each-requires
@@ -53,6 +53,8 @@ join_each-requires c =
 pub loop-k-preserved : goal.loop-k-preserved
 loop-k-preserved c =
     let l = (goal.at.loop-k-preserved c).At-loop-k in
+    let i = c.loop-k.invariant.1 in
+    let s = c.join_each.ensures.same_loan in
     let x = c.args in
     let then : Bool → List ℕ = slots c.join_each.new.list in (
       turn-next (steps l) x.b.positives.now x.b.negatives.now c.args.b.same_length (whole l) (first l) (now l) (evens l) c.loop-k.count c.loop-k.k
@@ -60,7 +62,7 @@ loop-k-preserved c =
           (omega (arith, c.loop-k-test.true)) then c.in_ok-count.count
           (subst (λ (t : Term). Added ((steps l).one t) (now l) c.loop-k.count then (Some c.in_ok-count.count)) c.at.ensures
           c.in_ok-count.ensures.made),
-      (c.join_each.ensures.same_loan.0 ∙ c.loop-k.invariant.1.0, c.join_each.ensures.same_loan.1 ∙ c.loop-k.invariant.1.1),
+      (s.0 ∙ i.0, s.1 ∙ i.1, s.2 ∙ i.2),
     )
 
 pub returns-in_err-count-clause-made : goal.returns-in_err-count-clause-made

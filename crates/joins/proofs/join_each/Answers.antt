@@ -39,7 +39,7 @@ loop-k-init c =
     let x = c.args in (
       turn-start (joining_one x.t) x.others.positives.now x.others.negatives.now (slots x.list.now)
           (even-slots x.list.now) x.start c.requires.0 c.requires.1,
-      (refl, refl),
+      (refl, refl, refl),
     )
 
 pub add_join-requires : goal.add_join-requires
@@ -53,6 +53,8 @@ add_join-requires c =
 pub loop-k-preserved : goal.loop-k-preserved
 loop-k-preserved c =
     let l = (goal.at.loop-k-preserved c).At-loop-k in
+    let i = c.loop-k.invariant.1 in
+    let s = c.add_join.ensures.same_loan in
     let x = c.args in
     let then : Bool → List ℕ = slots c.add_join.new.list in (
       turn-next (steps l) x.others.positives.now x.others.negatives.now c.args.others.same_length (whole l) (first l) (now l) (evens l) c.loop-k.count c.loop-k.k
@@ -60,7 +62,7 @@ loop-k-preserved c =
           (omega (arith, c.loop-k-test.true)) then c.in_ok-count.count
           (subst (λ (t : Term). Added ((steps l).one t) (now l) c.loop-k.count then (Some c.in_ok-count.count)) c.at.ensures
           c.in_ok-count.ensures.made),
-      (c.add_join.ensures.same_loan.0 ∙ c.loop-k.invariant.1.0, c.add_join.ensures.same_loan.1 ∙ c.loop-k.invariant.1.1),
+      (s.0 ∙ i.0, s.1 ∙ i.1, s.2 ∙ i.2),
     )
 
 pub returns-in_err-count-clause-made : goal.returns-in_err-count-clause-made

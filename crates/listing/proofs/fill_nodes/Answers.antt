@@ -92,7 +92,9 @@ fill_node-requires c =
         part_lies holds sign state c.loop-i-test.true c.requires.zeroed.small part is,
         part-given holds sign state c.loop-i-test.true c.requires.zeroed.small part is,
       );
-      has_place = subst (λ (m : ℕ). HasPlace m c.loop-i.low c.loop-i.high) (sym is.capacity-is) c.loop-i.invariant.2;
+      has_place = subst
+          (λ (m : ℕ). HasPlace m c.loop-i.low_positives c.loop-i.low_negatives c.loop-i.high_positives c.loop-i.high_negatives)
+          (sym is.capacity-is) c.loop-i.invariant.2;
     }
 
 pub returns-in_default : goal.returns-in_default
@@ -116,8 +118,11 @@ loop-i-preserved c =
       subst Listed (sym (add-one i))
           (state-more c.loop-i.invariant.1 c.loop-i-test.true (then d) (set c.loop-i.counts i k) n.0 ((filled d).masks n.0)
           (ap (set c.loop-i.counts i) n.1)),
-      subst (λ (m : ℕ). HasPlace m c.fill_node.new.low c.fill_node.new.high) c.part_of-part.ensures.capacity-is
-          c.fill_node.ensures.has_place,
+      subst
+          (λ (m : ℕ).
+          HasPlace m c.fill_node.new.low_positives c.fill_node.new.low_negatives c.fill_node.new.high_positives
+          c.fill_node.new.high_negatives)
+          c.part_of-part.ensures.capacity-is c.fill_node.ensures.has_place,
     )
 
 pub returns : goal.returns

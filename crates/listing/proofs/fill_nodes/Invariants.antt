@@ -13,4 +13,4 @@ invariant-loop-i l =
     let x = l.shape in
     (l.i ≤ x.nodes)
     × State [] x.variables (signed_function x.sign l.words) x.capacity x.nodes l.i (by_sign l.positives l.negatives) l.counts
-    × HasPlace x.capacity l.low l.high
+    × HasPlace x.capacity l.low_positives l.low_negatives l.high_positives l.high_negatives

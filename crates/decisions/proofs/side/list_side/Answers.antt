@@ -10,7 +10,7 @@ use Rattle.decisions.proofs.side.list_side.Goals as goal
 
 pub loop-k-init : goal.loop-k-init
 loop-k-init c =
-    (side-start c.requires c.args.literal.sign, omega arith, (refl, refl))
+    (side-start c.requires c.args.literal.sign, omega arith, (refl, refl, refl))
 
 pub end_ahead-end-requires : goal.end_ahead-end-requires
 end_ahead-end-requires c = (c.loop-k.invariant.1, c.requires.growing.at.sides.rising-high)
@@ -53,7 +53,7 @@ loop-k-preserved c =
     let k = c.loop-k.invariant.2 in (
       side-next c.requires c.args.literal.sign c.loop-k.invariant.0 g.0 g.1 g.2 g.3,
       c.end_ahead-end.ensures.1,
-      (l.0 ∙ k.0, l.1 ∙ k.1),
+      (l.0 ∙ k.0, l.1 ∙ k.1, l.2 ∙ k.2),
     )
 
 pub returns-clause-made : goal.returns-clause-made

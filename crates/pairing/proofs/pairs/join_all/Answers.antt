@@ -5,7 +5,7 @@ use Rattle.pairing.proofs.Steps.{pairs_start, pairs-left, pairs_next, pairs-over
 use Rattle.pairing.proofs.pairs.join_all.Goals as goal
 
 pub loop-turn-init : goal.loop-turn-init
-loop-turn-init c = (pairs_start c.requires.growing _ _ refl refl, (refl, refl))
+loop-turn-init c = (pairs_start c.requires.growing _ _ refl refl, (refl, refl, refl))
 
 pub step-requires : goal.step-requires
 step-requires c = record {
@@ -26,7 +26,7 @@ loop-turn-preserved c =
     let g = c.in_ok-turn.ensures.made in
     let l = c.step.ensures.same_loan in
     let k = c.loop-turn.invariant.1 in
-    (pairs_next c.requires.growing c.loop-turn.invariant.0 g.0 g.1 g.2 g.3, (l.0 ∙ k.0, l.1 ∙ k.1))
+    (pairs_next c.requires.growing c.loop-turn.invariant.0 g.0 g.1 g.2 g.3, (l.0 ∙ k.0, l.1 ∙ k.1, l.2 ∙ k.2))
 
 pub returns-after-loop-turn-clause-made : goal.returns-after-loop-turn-clause-made
 returns-after-loop-turn-clause-made c = pairs_end c.requires.growing c.loop-turn.invariant.0 0 (inl (omega arith))

@@ -10,7 +10,7 @@ use Rattle.settling.proofs.rows.join_row.Goals as goal
 pub loop-j-init : goal.loop-j-init
 loop-j-init c =
     let x = c.args in
-    (so-far-start c.requires.growing (nth x.a x.row.at) x.row.from 0, (refl, refl))
+    (so-far-start c.requires.growing (nth x.a x.row.at) x.row.from 0, (refl, refl, refl))
 
 pub try_kept-tried-requires : goal.try_kept-tried-requires
 try_kept-tried-requires c =
@@ -50,7 +50,7 @@ loop-j-preserved c =
     let g = c.in_ok-next.ensures.made in
     let l = c.settle.ensures.same_loan in
     let k = c.loop-j.invariant.1 in
-    (so-far-next c.requires.growing c.loop-j.invariant.0 g.0 g.1 g.2 g.3, (l.0 ∙ k.0, l.1 ∙ k.1))
+    (so-far-next c.requires.growing c.loop-j.invariant.0 g.0 g.1 g.2 g.3, (l.0 ∙ k.0, l.1 ∙ k.1, l.2 ∙ k.2))
 
 pub returns-clause-made : goal.returns-clause-made
 returns-clause-made c = so-far-end c.requires.growing c.loop-j.invariant.0 (omega (arith, c.loop-j-test.false))

@@ -51,22 +51,22 @@ module _ (s : List ℕ) (m : ℕ) (v : List ℕ) where
 
 pub returns-then-text-gt-MAX_BYTES : goal.returns-then-text-gt-MAX_BYTES
 returns-then-text-gt-MAX_BYTES c =
-    long _ _ _ c.if-text-gt-MAX_BYTES.true (c.fill.ensures.after (λ y e. e))
+    long _ _ _ c.if-text-gt-MAX_BYTES.true c.clear.ensures
 
 pub returns-in_err-variables : goal.returns-in_err-variables
 returns-in_err-variables c =
     let p = err_from_is_err_and c.from_residual.result c.from_residual.ensures.1 in
-    rw (p.1, p.2) (unfit _ _ _ c.if-text-gt-MAX_BYTES.false _ c.in_err-variables.ensures.0 (c.fill.ensures.after (λ y e. e)))
+    rw (p.1, p.2) (unfit _ _ _ c.if-text-gt-MAX_BYTES.false _ c.in_err-variables.ensures.0 c.clear.ensures)
 
 pub returns-then-is_err : goal.returns-then-is_err
 returns-then-is_err c =
-    let n = c.lines_from-reading.auto.words ∙ c.fill.auto.self in
-    cleared _ _ _ c.if-text-gt-MAX_BYTES.false _ _ c.in_ok-variables.ensures.0 c.fill.new.self
-    c.fill.auto.self (c.fill.ensures.after (λ y e. e)) _ c.if-is_err.ensures.value c.lines_from-reading.ensures.0
-    ((c.fill-then-is_err.ensures.after (λ y e. e)) ∙ ap (λ (k : ℕ). replicate {A = ℕ} k 0) n)
+    let n = c.lines_from-reading.auto.words ∙ c.clear.auto.words in
+    cleared _ _ _ c.if-text-gt-MAX_BYTES.false _ _ c.in_ok-variables.ensures.0 c.clear.new.words
+    c.clear.auto.words c.clear.ensures _ c.if-is_err.ensures.value c.lines_from-reading.ensures.0
+    (c.clear-then-is_err.ensures ∙ ap (λ (k : ℕ). replicate {A = ℕ} k 0) n)
 
 pub returns-else-is_err : goal.returns-else-is_err
 returns-else-is_err c =
-    accepted _ _ _ c.if-text-gt-MAX_BYTES.false _ _ c.in_ok-variables.ensures.0 c.fill.new.self
-    c.fill.auto.self (c.fill.ensures.after (λ y e. e)) _ c.if-is_err.ensures.value c.lines_from-reading.ensures.0
+    accepted _ _ _ c.if-text-gt-MAX_BYTES.false _ _ c.in_ok-variables.ensures.0 c.clear.new.words
+    c.clear.auto.words c.clear.ensures _ c.if-is_err.ensures.value c.lines_from-reading.ensures.0
     c.lines_from-reading.ensures.1

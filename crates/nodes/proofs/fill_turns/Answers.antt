@@ -7,8 +7,8 @@ use Rattle.std.specs.Prelude.{Some, None}
 use Rattle.lists.specs.List.{by_sign}
 use Rattle.nodes.proofs.Making.{last-below, making-start, making-few, making-end, Making}
 use Rattle.nodes.proofs.Making.{making-more, making-full, turn-rooms, turn-given}
-use Rattle.nodes.proofs.fill_node.Goals as goal
-use Rattle.nodes.proofs.fill_node.Goals.{Start, At-loop-k, In-loop-k}
+use Rattle.nodes.proofs.fill_turns.Goals as goal
+use Rattle.nodes.proofs.fill_turns.Goals.{Start, At-loop-k, In-loop-k}
 
 abbrev lent : Start → Bool → List ℕ
 lent s = by_sign s.args.positives.now s.args.negatives.now
@@ -47,7 +47,8 @@ loop-k-init c =
     let h = c.requires.laid in (
       making-start (lent s) c.args.counts.now c.args.part h.0 h.1 (c.places-last.result - 1) c.child_at-made.result
           (ap (λ (n : ℕ). n - 1) c.places-last.ensures) c.child_at-made.ensures.0 c.child_at-made.ensures.1,
-      c.requires.has_place,
+      c.requires.has_place.0,
+      c.requires.has_place.1,
     )
 
 pub child_at-requires : goal.child_at-requires
@@ -75,14 +76,14 @@ fill_part-requires c =
     record {
       given = turn-given (lent s) c.args.counts.now c.args.part h.0 h.1 (c.loop-k.k - 1) (now l) c.loop-k.made j low f n;
       room = (h.0.small, r.0, r.1, r.2, r.3, r.4, r.5);
-      has_place = c.loop-k.invariant.1;
+      has_place = (c.loop-k.invariant.1, c.loop-k.invariant.2);
     }
 
-pub returns-in_err-count-clause-made : goal.returns-in_err-count-clause-made
-returns-in_err-count-clause-made c =
-    let s = (goal.at.returns-in_err-count-clause-made c).Start in
-    let l = (goal.at.returns-in_err-count-clause-made c).At-loop-k in
-    let j = this (goal.at.returns-in_err-count-clause-made c).In-loop-k in
+pub returns-in_err-count : goal.returns-in_err-count
+returns-in_err-count c =
+    let s = (goal.at.returns-in_err-count c).Start in
+    let l = (goal.at.returns-in_err-count c).At-loop-k in
+    let j = this (goal.at.returns-in_err-count c).In-loop-k in
     let h = c.requires.laid in
     rw c.from_residual.ensures
     (making-full (lent s) c.args.counts.now c.args.part h.0 h.1 (c.loop-k.k - 1) (now l) c.loop-k.made j c.child_at.result
@@ -99,13 +100,14 @@ loop-k-preserved c =
       making-more (lent s) c.args.counts.now c.args.part h.0 h.1 (c.loop-k.k - 1) (now l) c.loop-k.made j c.child_at.result
           c.child_at.ensures.0 c.child_at.ensures.1 (by_sign c.fill_part.new.positives c.fill_part.new.negatives) (Some n)
           c.in_ok-count.ensures.made n refl,
-      c.fill_part.ensures.has_place,
+      c.fill_part.ensures.has_place.0,
+      c.fill_part.ensures.has_place.1,
     )
 
-pub returns-clause-made : goal.returns-clause-made
-returns-clause-made c =
-    let s = (goal.at.returns-clause-made c).Start in
-    let l = (goal.at.returns-clause-made c).At-loop-k in
+pub returns : goal.returns
+returns c =
+    let s = (goal.at.returns c).Start in
+    let l = (goal.at.returns c).At-loop-k in
     let x = c.args in
     let h = c.requires.laid in
     let none : c.loop-k.k ≡ 0 = omega arith in
